@@ -1,0 +1,4 @@
+pub mod Bits
+pub mod Truths
+pub mod Ranks
+pub mod Readings

@@ -1,0 +1,38 @@
+ghost use mathlib.Core.Path.{_≡_};
+ghost use mathlib.Core.Bool.{Bool, true, not, _&&_, _||_};
+ghost use Prim.Native.Nat.{ℕ, _≤_};
+ghost use lib.Dec.{eqb};
+ghost use Rattle.std.specs.Options.{Cases as BySome};
+ghost use Rattle.clause.specs.Clauses.{lits, top, joined, resolvent, Shares};
+ghost use Rattle.clause.specs.Words.{at, one, without};
+use crate::words::Clause;
+
+// The word of the one atom, 0 for atom 0.
+pub(crate) fn word_of(atom: u32) -> u64
+    requires { ⌜ atom ≤ 64 ⌝ }
+    ensures { λ r. ⌜ r ≡ one atom ⌝ }
+{
+    if atom == 0 {
+        return 0;
+    }
+    1 << (atom - 1)
+}
+
+fn take_out(word: u64, atom: u32) -> u64
+    requires { ⌜ atom ≤ 64 ⌝ }
+    ensures { λ r. ⌜ r ≡ without word atom ⌝ }
+{
+    word ^ (word & word_of(atom))
+}
+
+impl Clause {
+    // This clause without p joined with the other without -p, where p is the other's highest atom; nothing where an atom would stand in both signs.
+    pub fn resolve(&self, other: &Clause) -> Option<Clause>
+        ensures { λ r. ⌜ r ≡ resolvent (now (self .entry)) (now (other .entry)) ⌝ }
+    {
+        let p = other.highest();
+        let positive = take_out(self.positive, p) | other.positive;
+        let negative = self.negative | take_out(other.negative, p);
+        Clause::of_words(positive, negative)
+    }
+}

@@ -1,0 +1,3 @@
+// The clause store as an interface, by its meaning.
+pub mod entry;
+pub mod store;
