@@ -169,3 +169,29 @@ alike-words c d x y f g h k e =
         (λ z. (at-none (c .pos) a z ∙ sym (at-none (d .pos) a z), at-none (c .neg) a z ∙ sym (at-none (d .neg) a z)))
         (λ n. parts _ _ _ _ (x a) (y a) (alike-to 64 c d e a (omega arith) l))
         (cases-eq a 0)
+
+-- a lower number comes before, by atoms
+record Lower (k : ℕ) (c d : Literals) : Type 0 where
+  atom : ℕ
+  within : atom ≤ k
+  lower : treats c atom < treats d atom
+  alike : (a : ℕ) → a ≤ k → atom < a → treats c a ≡ treats d a
+
+lower-to : (k : ℕ) (c d : Literals) → rank-to k c < rank-to k d → Lower k c d
+unfolding rank-to
+lower-to zero c d l = absurd (omega arith)
+lower-to (suc k) c d l =
+    let ih = lower-to k c d in
+    let b = rank-bound k d in
+    ⊎-elim
+    (λ e. let r = ih (omega (arith, ap (λ (x : ℕ). x * 4 ^ k) e)) in
+          let w = r .within in
+          record { atom = r .atom; within = omega arith; lower = r .lower; alike = λ a m n. ⊎-elim (λ z. rw z e) (λ z. r .alike a (omega arith) n) (cases-eq a (suc k)) })
+    (λ o. ⊎-elim
+      (λ s. record { atom = suc k; within = omega arith; lower = s; alike = λ a m n. absurd (omega arith) })
+      (λ s. let x = ahead (treats d (suc k)) (treats c (suc k)) (4 ^ k) (rank-to k d) (rank-to k c) s b in absurd (omega arith))
+      o)
+    (cases-order (treats c (suc k)) (treats d (suc k)))
+
+pub before-rank : (c d : Literals) → rank c < rank d → Before c d
+before-rank c d l = let r = lower-to 64 c d l in record { atom = r .atom; within = r .within; lower = r .lower; alike = r .alike }

@@ -1,0 +1,3 @@
+pub mod Finds
+pub mod Leasts
+pub mod Meanings
