@@ -4,15 +4,18 @@ use mathlib.Core.Path.{_≡_, refl, sym, _∙_, ap}
 use mathlib.Core.Bool.{Bool, true, false, cond, not, _&&_, _||_, false≢true}
 use mathlib.Core.Logic.{_⊎_, inl, inr, ⊎-elim}
 use native.Mathlib.Omega.{arith}
-use lib.Dec.{eqb, leb, ltb}
+use lib.Dec.{T, eqb, leb, ltb, eqb→eq}
 use lib.Bits.{bitAnd, bitOr, bitXor}
 use lib.Count.{leadingZeros}
 use Rattle.std.proofs.shelf.Ways.{tells}
 use Rattle.std.proofs.shelf.Tests.{cases-eq, cases-bool, cases-lt, or-left, or-right, both-ways, eq-eqb, ne-eqb, and-parts}
 use Rattle.std.proofs.shelf.Bits.{and-le-l}
-use Rattle.clause.proofs.Bits.{at-or, at-and, at-xor, at-zero, Highest, highest-of, highest-none}
-use Rattle.clause.specs.Words.{at}
-use Rattle.clause.specs.Clauses.{Literals, makes, makes-to, top, top-to, lit, has, Shares}
+use Rattle.clause.proofs.Bits.{at-or, at-and, at-xor, at-zero, at-without, Highest, highest-of, highest-none}
+use Rattle.std.specs.declared.option.Option.{Option}
+use Rattle.std.specs.declared.option.Option.the-variants.{None, Some}
+use Rattle.clause.specs.declared.words.Clause.{Clause}
+use Rattle.clause.specs.Words.{at, without}
+use Rattle.clause.specs.Clauses.{Literals, makes, makes-to, top, top-to, lit, lits, has, Shares, clauseOf, clauseIf, joined, positive-in, negative-in}
 
 pub at-none : (w : ℕ) → at w 0 ≡ false
 unfolding at
@@ -147,3 +150,25 @@ shares-word p n f e =
 
 pub apart-word : (p n : ℕ) → bitAnd p n ≡ 0 → (a : ℕ) → at p a && at n a ≡ false
 apart-word p n e a = sym (at-and p n a) ∙ ap (λ (w : ℕ). at w a) e ∙ at-zero a
+
+-- the clause of two words has those words
+pub clause-words : (c : Literals) (d : Clause) → clauseOf c ≡ Some d → lits d ≡ c
+unfolding clauseOf
+clause-words c d e = go (eqb (bitAnd (c .pos) (c .neg)) 0) (eqb→eq (bitAnd (c .pos) (c .neg)) 0) e
+  where
+    go : (b : Bool) (f : T b → bitAnd (c .pos) (c .neg) ≡ 0) → clauseIf (c .pos) (c .neg) b f ≡ Some d → lits d ≡ c
+    go true f e = ap (λ (o : Option Clause). words o) (sym e)
+      where
+        words : Option Clause → Literals
+        words (Some x) = lits x
+        words None = c
+    go false f e = let z : _≡_ {A = ℕ} 0 1 = cc in absurd (omega arith)
+
+-- what joining two clauses without an atom gives
+pub joined-pos : (r c : Literals) (p a : ℕ) → at (joined r c p .pos) a ≡ positive-in r c p a
+unfolding joined
+joined-pos r c p a = at-or (without (r .pos) p) (c .pos) a ∙ ap (λ (b : Bool). b || at (c .pos) a) (at-without (r .pos) p a)
+
+pub joined-neg : (r c : Literals) (p a : ℕ) → at (joined r c p .neg) a ≡ negative-in r c p a
+unfolding joined
+joined-neg r c p a = at-or (r .neg) (without (c .neg) p) a ∙ ap (λ (b : Bool). at (r .neg) a || b) (at-without (c .neg) p a)

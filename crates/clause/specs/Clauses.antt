@@ -59,6 +59,22 @@ joined r c p = record { pos = bitOr (without (r .pos) p) (c .pos); neg = bitOr (
 abbrev pub resolvent : Clause → Clause → Option Clause
 resolvent r c = clauseOf (joined (lits r) (lits c) (top (lits c)))
 
+-- atom a stands positive, or negative, in r without p joined with c without its negation
+abbrev pub positive-in : Literals → Literals → ℕ → ℕ → Bool
+positive-in r c p a = (at (r .pos) a && not (eqb a p)) || at (c .pos) a
+
+abbrev pub negative-in : Literals → Literals → ℕ → ℕ → Bool
+negative-in r c p a = at (r .neg) a || (at (c .neg) a && not (eqb a p))
+
+-- d has just those literals
+pub record Resolves (r c : Literals) (p : ℕ) (d : Literals) : Type 0 where
+  pub positives : (a : ℕ) → at (d .pos) a ≡ positive-in r c p a
+  pub negatives : (a : ℕ) → at (d .neg) a ≡ negative-in r c p a
+
+-- an atom would stand in both signs
+abbrev pub Clashes : Literals → Literals → ℕ → Type 0
+Clashes r c p = (a : ℕ) × (positive-in r c p a ≡ true) × (negative-in r c p a ≡ true)
+
 -- the two clauses have the same literals
 abbrev pub same : Clause → Clause → Bool
 same c d = eqb (c .positive) (d .positive) && eqb (c .negative) (d .negative)

@@ -1,17 +1,17 @@
 -- Literals read into a clause.
-use Prim.Native.Nat.{ℕ, zero, suc, _+_, min}
+use Prim.Native.Nat.{ℕ, zero, suc, _+_, _<_, min}
 use mathlib.Core.Path.{_≡_, refl}
 use mathlib.Core.Bool.{Bool, true, false, cond, _||_}
 use mathlib.Core.List.{List, [], _∷_}
 use lib.Dec.{eqb, ltb}
 use lib.IntN.{ℤ, pos, negsuc, natAbs}
+use Rattle.clause.specs.Words.{at, with-atom}
 use Rattle.std.specs.declared.option.Option.{Option}
 use Rattle.std.specs.declared.option.Option.the-variants.{None, Some}
 use Rattle.std.specs.declared.result.Result.{Result}
 use Rattle.std.specs.declared.result.Result.the-variants.{Ok, Err}
 use Rattle.clause.specs.declared.words.Clause.{Clause}
-use Rattle.clause.specs.Words.{with-atom}
-use Rattle.clause.specs.Clauses.{Literals, clauseOf}
+use Rattle.clause.specs.Clauses.{Literals, lits, clauseOf}
 use Rattle.clause.specs.Refusals.{Told, refused}
 
 -- the empty clause
@@ -36,3 +36,26 @@ unfoldable pub reads : ℕ → ℕ → Clause → List ℤ → Result Clause Tol
 reads n i c [] = Ok c
 reads n i c (l ∷ ls) =
     cond (outside n (natAbs l)) (Err (refused 6 i)) (reads-on (λ d. reads n (i + 1) d ls) i (grown c l (natAbs l)))
+
+-- a literal is the atom a, or its negation
+abbrev pub is-plus : ℕ → ℤ → Bool
+is-plus a (pos n) = eqb a n
+is-plus a (negsuc n) = false
+
+abbrev pub is-minus : ℕ → ℤ → Bool
+is-minus a (pos n) = false
+is-minus a (negsuc n) = eqb a (suc n)
+
+-- one of the literals is
+unfoldable pub some-plus : ℕ → List ℤ → Bool
+some-plus a [] = false
+some-plus a (l ∷ ls) = is-plus a l || some-plus a ls
+
+unfoldable pub some-minus : ℕ → List ℤ → Bool
+some-minus a [] = false
+some-minus a (l ∷ ls) = is-minus a l || some-minus a ls
+
+-- c is the set of the literals ls
+pub record Lists (ls : List ℤ) (c : Literals) : Type 0 where
+  pub plus : (a : ℕ) → 0 < a → at (c .pos) a ≡ some-plus a ls
+  pub minus : (a : ℕ) → 0 < a → at (c .neg) a ≡ some-minus a ls

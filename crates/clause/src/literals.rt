@@ -1,7 +1,9 @@
 ghost use mathlib.Core.Path.{_≡_};
 ghost use Prim.Native.Nat.{ℕ, _≤_};
 ghost use lib.IntN.{pos};
-ghost use Rattle.clause.specs.Reading.{grown, reads, clear, outside};
+ghost use Rattle.std.specs.Vec.{made};
+ghost use Rattle.clause.specs.Clauses.{lits};
+ghost use Rattle.clause.specs.Reading.{grown, reads, clear, outside, Lists};
 ghost use Rattle.clause.specs.Refusals.{answer};
 use crate::refusal::Refusal;
 use crate::resolve::word_of;
@@ -23,7 +25,8 @@ impl Clause {
 
     // The clause of the literals, of atoms 1 to the lesser of `atoms` and 64; repeats count once, and the first faulty literal decides.
     pub fn of_literals(literals: &[i32], atoms: u32) -> Result<Clause, Refusal>
-        ensures { λ r. ⌜ answer r ≡ reads atoms 0 clear (now (literals .entry)) ⌝ }
+        ensures value { λ r. ⌜ answer r ≡ reads atoms 0 clear (now (literals .entry)) ⌝ }
+        ensures atoms { λ r. ⌜ made r (λ c. Lists (now (literals .entry)) (lits c)) ⌝ }
     {
         let mut clause = Clause::empty();
         for (i, l) in literals.iter().enumerate() {

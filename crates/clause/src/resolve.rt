@@ -1,10 +1,8 @@
 ghost use mathlib.Core.Path.{_≡_};
-ghost use mathlib.Core.Bool.{Bool, true, not, _&&_, _||_};
 ghost use Prim.Native.Nat.{ℕ, _≤_};
-ghost use lib.Dec.{eqb};
 ghost use Rattle.std.specs.Options.{Cases as BySome};
-ghost use Rattle.clause.specs.Clauses.{lits, top, joined, resolvent, Shares};
-ghost use Rattle.clause.specs.Words.{at, one, without};
+ghost use Rattle.clause.specs.Clauses.{lits, top, resolvent, Clashes, Resolves};
+ghost use Rattle.clause.specs.Words.{one, without};
 use crate::words::Clause;
 
 // The word of the one atom, 0 for atom 0.
@@ -28,7 +26,8 @@ fn take_out(word: u64, atom: u32) -> u64
 impl Clause {
     // This clause without p joined with the other without -p, where p is the other's highest atom; nothing where an atom would stand in both signs.
     pub fn resolve(&self, other: &Clause) -> Option<Clause>
-        ensures { λ r. ⌜ r ≡ resolvent (now (self .entry)) (now (other .entry)) ⌝ }
+        ensures value { λ r. ⌜ r ≡ resolvent (now (self .entry)) (now (other .entry)) ⌝ }
+        ensures atoms { λ r. ⌜ BySome r (Clashes (lits (now (self .entry))) (lits (now (other .entry))) (top (lits (now (other .entry))))) (λ d. Resolves (lits (now (self .entry))) (lits (now (other .entry))) (top (lits (now (other .entry)))) (lits d)) ⌝ }
     {
         let p = other.highest();
         let positive = take_out(self.positive, p) | other.positive;
