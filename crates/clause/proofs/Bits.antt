@@ -73,12 +73,12 @@ at-one zero a h = absurd (omega arith)
 at-one (suc i) zero h = sym (ne-eqb 0 (suc i) (omega arith))
 at-one (suc i) (suc k) h = ⊎-elim
     (λ l. let e : i ≡ suc (i - suc k) + k = omega arith in
-          let x = ap (λ (n : ℕ). 2 ^ n / 2 ^ k) e ∙ ap (λ (n : ℕ). n / 2 ^ k) (pow-add 2 (suc (i - suc k)) k) ∙ shl-shr (2 ^ suc (i - suc k)) k in
-          ne-eqb _ 1 (omega arith) ∙ sym (ne-eqb (suc k) (suc i) (omega arith)))
+    let x = ap (λ (n : ℕ). 2 ^ n / 2 ^ k) e ∙ ap (λ (n : ℕ). n / 2 ^ k) (pow-add 2 (suc (i - suc k)) k) ∙ shl-shr (2 ^ suc (i - suc k)) k in
+    ne-eqb _ 1 (omega arith) ∙ sym (ne-eqb (suc k) (suc i) (omega arith)))
     (λ m. ⊎-elim
-      (λ z. let x = rw one-mul at (shl-shr 1 k) in rw z (eq-eqb _ 1 (omega arith) ∙ sym (eq-eqb (suc k) (suc k) refl)))
-      (λ n. let x = div-eq-of-lt (pow-lt {i = i} {j = k} (omega arith)) in ne-eqb _ 1 (omega arith) ∙ sym (ne-eqb (suc k) (suc i) (omega arith)))
-      (cases-eq i k))
+    (λ z. let x = rw one-mul at (shl-shr 1 k) in rw z (eq-eqb _ 1 (omega arith) ∙ sym (eq-eqb (suc k) (suc k) refl)))
+    (λ n. let x = div-eq-of-lt (pow-lt {i = i} {j = k} (omega arith)) in ne-eqb _ 1 (omega arith) ∙ sym (ne-eqb (suc k) (suc i) (omega arith)))
+    (cases-eq i k))
     (cases-lt k i)
 
 pub at-with : (w p a : ℕ) → 0 < p → at (with-atom w p) a ≡ at w a || eqb a p
@@ -103,13 +103,13 @@ unfolding at upto
 at-upto w h zero = refl
 at-upto w h (suc k) = ⊎-elim
     (λ l. let e : h ≡ (h - suc k + 1) + k = omega arith in
-          let x = ap (λ (n : ℕ). w % 2 ^ n / 2 ^ k) e ∙ field w (h - suc k + 1) k in
-          let y = mod-mod-pow (w / 2 ^ k) (h - suc k) 1 in
-          ap (λ (n : ℕ). eqb n 1) (ap (λ (n : ℕ). n % 2) x ∙ y) ∙ sym (ap (λ (b : Bool). eqb (w / 2 ^ k % 2) 1 && b) (le-leb (suc k) h l) ∙ and-true (eqb (w / 2 ^ k % 2) 1)))
+    let x = ap (λ (n : ℕ). w % 2 ^ n / 2 ^ k) e ∙ field w (h - suc k + 1) k in
+    let y = mod-mod-pow (w / 2 ^ k) (h - suc k) 1 in
+    ap (λ (n : ℕ). eqb n 1) (ap (λ (n : ℕ). n % 2) x ∙ y) ∙ sym (ap (λ (b : Bool). eqb (w / 2 ^ k % 2) 1 && b) (le-leb (suc k) h l) ∙ and-true (eqb (w / 2 ^ k % 2) 1)))
     (λ l. let m = mod-lt w (pow-pos h) in
-          let n = pow-mono l in
-          let z = div-eq-of-lt {n = w % 2 ^ h} {m = 2 ^ k} (omega arith) in
-          ne-eqb _ 1 (omega arith) ∙ sym (ap (λ (b : Bool). eqb (w / 2 ^ k % 2) 1 && b) (lt-leb (suc k) h (omega arith)) ∙ and-false (eqb (w / 2 ^ k % 2) 1)))
+    let n = pow-mono l in
+    let z = div-eq-of-lt {n = w % 2 ^ h} {m = 2 ^ k} (omega arith) in
+    ne-eqb _ 1 (omega arith) ∙ sym (ap (λ (b : Bool). eqb (w / 2 ^ k % 2) 1 && b) (lt-leb (suc k) h (omega arith)) ∙ and-false (eqb (w / 2 ^ k % 2) 1)))
     (cases-lt k h)
 
 pub with-fits : (w p : ℕ) → p ≤ 64 → w < 2 ^ 64 → with-atom w p < 2 ^ 64
@@ -187,7 +187,7 @@ highest-of w z f =
       some = omega arith;
       within = omega arith;
       there = eq-eqb _ 1 (let d : w / 2 ^ j ≡ 1 = quot w (2 ^ j) (pow-pos j) lo (omega arith) in rw d);
-      above = beyond j hi
+      above = beyond j hi;
     }
   where
     quot : (w m : ℕ) → 0 < m → m ≤ w → w < m * 2 → w / m ≡ 1
@@ -195,6 +195,7 @@ highest-of w z f =
         let a : w / m < 2 = div-below w m 2 h (omega (arith, mul-comm m 2)) in
         let b : 1 ≤ w / m = le-div 1 w m h (omega arith) in
         omega arith
+
     beyond : (j : ℕ) → w < 2 ^ suc j → (a : ℕ) → suc j < a → at w a ≡ false
     beyond j hi zero l = absurd (omega arith)
     beyond j hi (suc k) l =

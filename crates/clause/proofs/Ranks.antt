@@ -46,10 +46,10 @@ unfolding rank-to
 rank-less zero c d p z l t h = absurd (omega arith)
 rank-less (suc k) c d p z l t h = ⊎-elim
     (λ e. let t′ : treats c (suc k) < treats d (suc k) = rw e at t in
-          ahead (treats c (suc k)) (treats d (suc k)) (4 ^ k) (rank-to k c) (rank-to k d) t′ (rank-bound k c))
+    ahead (treats c (suc k)) (treats d (suc k)) (4 ^ k) (rank-to k c) (rank-to k d) t′ (rank-bound k c))
     (λ n. let ih = rank-less k c d p z (omega arith) t (λ a m. h a (omega arith)) in
-          let q = h (suc k) (omega arith) (omega arith) in
-          omega (arith, ap (λ (x : ℕ). x * 4 ^ k) q))
+    let q = h (suc k) (omega arith) (omega arith) in
+    omega (arith, ap (λ (x : ℕ). x * 4 ^ k) q))
     (cases-eq p (suc k))
 
 pub rank-before : (c d : Literals) → Before c d → rank c < rank d
@@ -96,15 +96,15 @@ rank-top (suc k) c d l =
     ⊎-elim
     (λ t. let b = top-bound k c in grind arith)
     (λ t. let z = treats-none d (suc k) t in
-          let b = rank-bound k d in
-          ⊎-elim
-          (λ u. let s = treats-some c (suc k) u in
-                let x = mul-le-mul-right (4 ^ k) s in
-                absurd (omega (arith, ap (λ (x : ℕ). x * 4 ^ k) z)))
-          (λ u. let y = treats-none c (suc k) u in
-                let ih = rank-top k c d (omega (arith, ap (λ (x : ℕ). x * 4 ^ k) z, ap (λ (x : ℕ). x * 4 ^ k) y)) in
-                grind arith)
-          (cases-bool (has c (suc k))))
+    let b = rank-bound k d in
+    ⊎-elim
+    (λ u. let s = treats-some c (suc k) u in
+    let x = mul-le-mul-right (4 ^ k) s in
+    absurd (omega (arith, ap (λ (x : ℕ). x * 4 ^ k) z)))
+    (λ u. let y = treats-none c (suc k) u in
+    let ih = rank-top k c d (omega (arith, ap (λ (x : ℕ). x * 4 ^ k) z, ap (λ (x : ℕ). x * 4 ^ k) y)) in
+    grind arith)
+    (cases-bool (has c (suc k))))
     (cases-bool (has d (suc k)))
 
 -- ---- the comparison of two clauses by their words
@@ -141,10 +141,18 @@ module _ (c d : Literals) where
   -- what the treatments of the highest differing atom say
   decided-at : Clean c → Clean d → Highest (differing c d) → (o : Ordering) → (p : ℕ) → 64 - leadingZeros 64 (differing c d) ≡ p → Compares (treats c p) (treats d p) o → Decided c d o
   decided-at x y h Less p e r = record {
-      atom = p; within = omega (arith, h .is, h .within); lower = r; alike = λ a l m. alike-at a (h .above a (omega (arith, h .is))) }
+    atom = p;
+    within = omega (arith, h .is, h .within);
+    lower = r;
+    alike = λ a l m. alike-at a (h .above a (omega (arith, h .is)));
+  }
   decided-at x y h Equal p e r = absurd (unlike-at x y p (ap (at (differing c d)) (sym e ∙ h .is) ∙ h .there) r)
   decided-at x y h Greater p e r = record {
-      atom = p; within = omega (arith, h .is, h .within); lower = r; alike = λ a l m. sym (alike-at a (h .above a (omega (arith, h .is)))) }
+    atom = p;
+    within = omega (arith, h .is, h .within);
+    lower = r;
+    alike = λ a l m. sym (alike-at a (h .above a (omega (arith, h .is))));
+  }
 
   decided-none : (o : Ordering) (p : ℕ) → p ≡ 0 → differing c d ≡ 0 → Compares (treats c p) (treats d p) o → Decided c d o
   decided-none Less p e z r = absurd (omega (arith, alike-at p (ap (λ (w : ℕ). at w p) z ∙ at-zero p)))
@@ -164,6 +172,7 @@ alike-words c d x y f g h k e =
   where
     parts : (p n q m : Bool) → p && n ≡ false → q && m ≡ false → _≡_ {A = ℕ} (cond p 1 (cond n 2 0)) (cond q 1 (cond m 2 0)) → (p ≡ q) × (n ≡ m)
     parts p n q m x y e = (grind arith, grind arith)
+
     both : (a : ℕ) → a ≤ 64 → (at (c .pos) a ≡ at (d .pos) a) × (at (c .neg) a ≡ at (d .neg) a)
     both a l = ⊎-elim
         (λ z. (at-none (c .pos) a z ∙ sym (at-none (d .pos) a z), at-none (c .neg) a z ∙ sym (at-none (d .neg) a z)))
@@ -185,12 +194,12 @@ lower-to (suc k) c d l =
     let b = rank-bound k d in
     ⊎-elim
     (λ e. let r = ih (omega (arith, ap (λ (x : ℕ). x * 4 ^ k) e)) in
-          let w = r .within in
-          record { atom = r .atom; within = omega arith; lower = r .lower; alike = λ a m n. ⊎-elim (λ z. rw z e) (λ z. r .alike a (omega arith) n) (cases-eq a (suc k)) })
+    let w = r .within in
+    record { atom = r .atom; within = omega arith; lower = r .lower; alike = λ a m n. ⊎-elim (λ z. rw z e) (λ z. r .alike a (omega arith) n) (cases-eq a (suc k)) })
     (λ o. ⊎-elim
-      (λ s. record { atom = suc k; within = omega arith; lower = s; alike = λ a m n. absurd (omega arith) })
-      (λ s. let x = ahead (treats d (suc k)) (treats c (suc k)) (4 ^ k) (rank-to k d) (rank-to k c) s b in absurd (omega arith))
-      o)
+    (λ s. record { atom = suc k; within = omega arith; lower = s; alike = λ a m n. absurd (omega arith) })
+    (λ s. let x = ahead (treats d (suc k)) (treats c (suc k)) (4 ^ k) (rank-to k d) (rank-to k c) s b in absurd (omega arith))
+    o)
     (cases-order (treats c (suc k)) (treats d (suc k)))
 
 pub before-rank : (c d : Literals) → rank c < rank d → Before c d

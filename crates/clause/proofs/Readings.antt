@@ -101,7 +101,8 @@ reads-joins n i c d (l ∷ ls) e = go (outside n (natAbs l)) refl (grown c l (na
         let m = one-more c x l (not-outside n (natAbs l) q) p in
         record {
           plus = λ a z. j .plus a z ∙ ap (λ (b : Bool). b || some-plus a ls) (m a .0) ∙ or-assoc (at (c .positive) a) (is-plus a l) (some-plus a ls);
-          minus = λ a z. j .minus a z ∙ ap (λ (b : Bool). b || some-minus a ls) (m a .1) ∙ or-assoc (at (c .negative) a) (is-minus a l) (some-minus a ls) }
+          minus = λ a z. j .minus a z ∙ ap (λ (b : Bool). b || some-minus a ls) (m a .1) ∙ or-assoc (at (c .negative) a) (is-minus a l) (some-minus a ls);
+        }
 
 pub reads-lists : (n : ℕ) (ls : List ℤ) (r : Result Clause Refusal) → answer r ≡ reads n 0 clear ls → made r (λ c. Lists ls (lits c))
 reads-lists n ls (Err x) e = tt
@@ -109,4 +110,5 @@ reads-lists n ls (Ok d) e =
     let j = reads-joins n 0 clear d ls (sym e) in
     record {
       plus = λ a z. j .plus a z ∙ ap (λ (b : Bool). b || some-plus a ls) (at-zero a);
-      minus = λ a z. j .minus a z ∙ ap (λ (b : Bool). b || some-minus a ls) (at-zero a) }
+      minus = λ a z. j .minus a z ∙ ap (λ (b : Bool). b || some-minus a ls) (at-zero a);
+    }

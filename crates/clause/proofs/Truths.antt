@@ -1,6 +1,7 @@
 -- Truth and the highest atom of a set of literals.
 use Prim.Native.Nat.{ℕ, zero, suc, _+_, _-_, _*_, _^_, _≤_, _<_}
-use mathlib.Core.Path.{_≡_, refl, sym, _∙_, ap}
+use mathlib.Core.Path.{_≡_, refl, sym, _∙_, ap, subst}
+use native.Mathlib.Nat.{ℕ-set}
 use mathlib.Core.Bool.{Bool, true, false, cond, not, _&&_, _||_, false≢true}
 use mathlib.Core.Logic.{_⊎_, inl, inr, ⊎-elim}
 use native.Mathlib.Omega.{arith}
@@ -98,9 +99,9 @@ top-some c h =
     let l = top-le 64 c (h .atom) (h .within) (sym (has-word c (h .atom)) ∙ h .there) in
     let s = h .some in
     let u : top c ≤ h .atom = ⊎-elim
-        (λ b. absurd (both-ways _ (h .above (top c) b) (has-word c (top c) ∙ top-has 64 c (omega arith))))
-        (λ b. b)
-        (cases-lt (h .atom) (top c)) in
+    (λ b. absurd (both-ways _ (h .above (top c) b) (has-word c (top c) ∙ top-has 64 c (omega arith))))
+    (λ b. b)
+    (cases-lt (h .atom) (top c)) in
     omega arith
 
 -- the highest atom by leading zeros
@@ -114,17 +115,17 @@ pub empty-word : (c : Literals) → bitOr (c .pos) (c .neg) < 2 ^ 64 → eqb (bi
 empty-word c f = ⊎-elim
     (λ z. eq-eqb _ 0 z ∙ sym (eq-eqb _ 0 (top-none c z)))
     (λ n. let h = highest-of (bitOr (c .pos) (c .neg)) (omega arith) f in
-          let s = h .some in
-          let e = top-some c h in
-          ne-eqb _ 0 n ∙ sym (ne-eqb (top c) 0 (omega arith)))
+    let s = h .some in
+    let e = top-some c h in
+    ne-eqb _ 0 n ∙ sym (ne-eqb (top c) 0 (omega arith)))
     (cases-eq (bitOr (c .pos) (c .neg)) 0)
 
 -- the word of the atoms whose literals are true
 lit-word : (v : ℕ) (c : Literals) (a : ℕ) → at (bitOr (bitAnd (c .pos) v) (bitAnd (c .neg) (bitXor (c .neg) v))) a ≡ lit v c a
 lit-word v c a =
     parts (at (c .pos) a) (at (c .neg) a) (at v a) _ _ _ _
-      (at-or (bitAnd (c .pos) v) (bitAnd (c .neg) (bitXor (c .neg) v)) a)
-      (at-and (c .pos) v a) (at-and (c .neg) (bitXor (c .neg) v) a) (at-xor (c .neg) v a)
+    (at-or (bitAnd (c .pos) v) (bitAnd (c .neg) (bitXor (c .neg) v)) a)
+    (at-and (c .pos) v a) (at-and (c .neg) (bitXor (c .neg) v) a) (at-xor (c .neg) v a)
   where
     parts : (p n v w x y z : Bool) → w ≡ x || y → x ≡ p && v → y ≡ n && z → z ≡ cond n (not v) v → w ≡ (p && v) || (n && not v)
     parts p n v w x y z e f g h = grind arith
@@ -137,7 +138,7 @@ makes-word v c f =
     ⊎-elim
     (λ z. ap not (eq-eqb w 0 z) ∙ sym (makes-not 64 v c (λ a l. sym (lit-word v c a) ∙ ap (λ (x : ℕ). at x a) z ∙ at-zero a)))
     (λ n. let h = highest-of w (omega arith) f in
-          ap not (ne-eqb w 0 n) ∙ sym (makes-some 64 v c (h .atom) (h .within) (sym (lit-word v c (h .atom)) ∙ h .there)))
+    ap not (ne-eqb w 0 n) ∙ sym (makes-some 64 v c (h .atom) (h .within) (sym (lit-word v c (h .atom)) ∙ h .there)))
     (cases-eq w 0)
 
 -- words that share a bit share an atom
@@ -172,3 +173,17 @@ joined-pos r c p a = at-or (without (r .pos) p) (c .pos) a ∙ ap (λ (b : Bool)
 pub joined-neg : (r c : Literals) (p a : ℕ) → at (joined r c p .neg) a ≡ negative-in r c p a
 unfolding joined
 joined-neg r c p a = at-or (r .neg) (without (c .neg) p) a ∙ ap (λ (b : Bool). at (r .neg) a || b) (at-without (c .neg) p a)
+
+-- a clause is its literals
+abbrev made : (p n : ℕ) → bitAnd p n ≡ 0 → Clause
+made p n f = record { positive = p; negative = n; apart = f }
+
+same-made : (p n q m : ℕ) (f : bitAnd p n ≡ 0) → p ≡ q → n ≡ m → (g : bitAnd q m ≡ 0) → made p n f ≡ made q m g
+same-made p n q m f e k =
+    let P : ℕ → Type 0 = λ x. (g : bitAnd x m ≡ 0) → made p n f ≡ made x m g in
+    let Q : ℕ → Type 0 = λ x. (g : bitAnd p x ≡ 0) → made p n f ≡ made p x g in
+    subst P e (subst Q k (λ g. ap (made p n) (ℕ-set _ _ f g)))
+
+pub same-literals : (c d : Clause) → lits c ≡ lits d → c ≡ d
+same-literals c d e =
+    same-made (c .positive) (c .negative) (d .positive) (d .negative) (c .apart) (ap (λ (x : Literals). x .pos) e) (ap (λ (x : Literals). x .neg) e) (d .apart)

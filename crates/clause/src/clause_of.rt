@@ -1,16 +1,19 @@
 ghost use mathlib.Core.Path.{_≡_};
 ghost use Rattle.std.specs.Options.{Cases as BySome};
+ghost use lib.Bits.{bitAnd, bitOr};
 ghost use lib.Dec.{eqb};
 ghost use Rattle.clause.specs.Clauses.{clauseOf, lits, same, top, Shares};
-ghost use Rattle.clause.specs.Reading.{clear};
 use crate::words::Clause;
 
 impl Clause {
     // The clause without a literal.
     pub fn empty() -> Clause
-        ensures { λ r. ⌜ r ≡ clear ⌝ }
+        ensures { λ r. ⌜ lits r ≡ record { pos = 0; neg = 0 } ⌝ }
     {
-        Clause { positive: 0, negative: 0 }
+        Clause {
+            positive: 0,
+            negative: 0,
+        }
     }
 
     // The clause of two words of atoms, or nothing where an atom stands in both.
@@ -18,7 +21,7 @@ impl Clause {
         ensures value { λ r. ⌜ r ≡ clauseOf (record { pos = positive; neg = negative }) ⌝ }
         ensures atoms { λ r. ⌜ BySome r (Shares positive negative) (λ c. lits c ≡ record { pos = positive; neg = negative }) ⌝ }
     {
-        if positive & negative == 0 {
+        if are_apart(positive, negative) {
             Some(Clause { positive, negative })
         } else {
             None
@@ -42,7 +45,14 @@ impl Clause {
     pub fn is_empty(&self) -> bool
         ensures { λ r. ⌜ r ≡ eqb (top (lits (now (self .entry)))) 0 ⌝ }
     {
-        self.positive | self.negative == 0
+        self.atoms() == 0
+    }
+
+    // The word of the atoms that stand in the clause, in either sign.
+    pub(crate) fn atoms(&self) -> u64
+        ensures { λ r. ⌜ r ≡ bitOr (now (self .entry) .positive) (now (self .entry) .negative) ⌝ }
+    {
+        self.positive | self.negative
     }
 
     // Whether the two clauses have the same literals.
@@ -51,4 +61,11 @@ impl Clause {
     {
         self.positive == other.positive && self.negative == other.negative
     }
+}
+
+// Whether no atom stands in both words.
+fn are_apart(positive: u64, negative: u64) -> bool
+    ensures { λ r. ⌜ r ≡ eqb (bitAnd positive negative) 0 ⌝ }
+{
+    positive & negative == 0
 }

@@ -2,6 +2,7 @@ ghost use mathlib.Core.Path.{_≡_};
 ghost use Prim.Native.Nat.{ℕ, _≤_};
 ghost use Rattle.clause.specs.Clauses.{lits};
 ghost use Rattle.clause.specs.Order.{treats, rank, Decided, Compares};
+use crate::truth::highest_in;
 use crate::truth::stands;
 use crate::words::Clause;
 use std::cmp::Ordering;
@@ -26,7 +27,7 @@ impl Clause {
         ensures ranks { λ r. ⌜ Compares (rank (lits (now (self .entry)))) (rank (lits (now (other .entry)))) r ⌝ }
     {
         let differs = (self.positive ^ other.positive) | (self.negative ^ other.negative);
-        let atom = 64 - differs.leading_zeros();
+        let atom = highest_in(differs);
         let mine = self.treatment(atom);
         let theirs = other.treatment(atom);
         mine.cmp(&theirs)

@@ -2,7 +2,8 @@ ghost use mathlib.Core.Path.{_≡_};
 ghost use Prim.Native.Nat.{ℕ, _≤_};
 ghost use Rattle.std.specs.Options.{Cases as BySome};
 ghost use Rattle.clause.specs.Clauses.{lits, top, resolvent, Clashes, Resolves};
-ghost use Rattle.clause.specs.Words.{one, without};
+ghost use lib.Bits.{bitAnd, bitXor};
+ghost use Rattle.clause.specs.Words.{one};
 use crate::words::Clause;
 
 // The word of the one atom, 0 for atom 0.
@@ -16,9 +17,10 @@ pub(crate) fn word_of(atom: u32) -> u64
     1 << (atom - 1)
 }
 
+// The word without the atom.
 fn take_out(word: u64, atom: u32) -> u64
     requires { ⌜ atom ≤ 64 ⌝ }
-    ensures { λ r. ⌜ r ≡ without word atom ⌝ }
+    ensures { λ r. ⌜ r ≡ bitXor word (bitAnd word (one atom)) ⌝ }
 {
     word ^ (word & word_of(atom))
 }

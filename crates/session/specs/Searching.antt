@@ -31,32 +31,35 @@ reasonOf s p = reasonIn (s .reasons) p
 -- atom p true with reason k: a setting
 unfoldable pub setting : Search → ℕ → ℕ → Search
 setting s p k = record {
-    atoms = s .atoms;
-    phase = s .phase;
-    valuation = with-atom (s .valuation) p;
-    reasons = set (s .reasons) (p - 1) (Some k);
-    made = counted (s .made) Setting;
-    given = s .given }
+  atoms = s .atoms;
+  phase = s .phase;
+  valuation = with-atom (s .valuation) p;
+  reasons = set (s .reasons) (p - 1) (Some k);
+  made = counted (s .made) Setting;
+  given = s .given;
+}
 
 -- the atoms above h false, and without reasons
 unfoldable pub cleared : Search → ℕ → Search
 cleared s h = record {
-    atoms = s .atoms;
-    phase = s .phase;
-    valuation = upto (s .valuation) h;
-    reasons = take h (s .reasons) ++ replicate (64 - h) None;
-    made = s .made;
-    given = s .given }
+  atoms = s .atoms;
+  phase = s .phase;
+  valuation = upto (s .valuation) h;
+  reasons = take h (s .reasons) ++ replicate (64 - h) None;
+  made = s .made;
+  given = s .given;
+}
 
 -- one step more was made
 abbrev pub stepped : Search → Search
 stepped s = record {
-    atoms = s .atoms;
-    phase = s .phase;
-    valuation = s .valuation;
-    reasons = s .reasons;
-    made = counted (s .made) Derivation;
-    given = s .given }
+  atoms = s .atoms;
+  phase = s .phase;
+  valuation = s .valuation;
+  reasons = s .reasons;
+  made = counted (s .made) Derivation;
+  given = s .given;
+}
 
 -- after a derived clause with the highest atom h was put
 abbrev pub derived : Search → ℕ → Search
@@ -64,12 +67,13 @@ derived s h = stepped (cleared s h)
 
 abbrev pub in-phase : Search → Phase → Search
 in-phase s ph = record {
-    atoms = s .atoms;
-    phase = ph;
-    valuation = s .valuation;
-    reasons = s .reasons;
-    made = s .made;
-    given = s .given }
+  atoms = s .atoms;
+  phase = ph;
+  valuation = s .valuation;
+  reasons = s .reasons;
+  made = s .made;
+  given = s .given;
+}
 
 -- the empty clause was derived from entries first and second
 abbrev pub refuted : Search → ℕ → ℕ → Search
@@ -88,12 +92,13 @@ withdrawn (Refuted i j) = Refuted i j
 
 abbrev pub one-given : Search → Search
 one-given s = record {
-    atoms = s .atoms;
-    phase = withdrawn (s .phase);
-    valuation = s .valuation;
-    reasons = s .reasons;
-    made = s .made;
-    given = more (s .given) }
+  atoms = s .atoms;
+  phase = withdrawn (s .phase);
+  valuation = s .valuation;
+  reasons = s .reasons;
+  made = s .made;
+  given = more (s .given);
+}
 
 -- after a new clause was given: where it is false, the atoms above its highest become false
 abbrev pub admitted : Search → Clause → Search

@@ -98,5 +98,5 @@ abbrev pub runs : ℕ → Held → Search → Tally → After (Result Ended Told
 runs zero h s t = looks (λ k. ended h s (stopped (refused 14 0)) t) h s t (s .phase) (leastFalse h (s .valuation))
 runs (suc b) h s t =
     looks
-        (λ k. stepping (runs b) t (stepAt h s k (entryAt (h .entries) k)))
-        h s t (s .phase) (leastFalse h (s .valuation))
+    (λ k. stepping (runs b) t (stepAt h s k (entryAt (h .entries) k)))
+    h s t (s .phase) (leastFalse h (s .valuation))

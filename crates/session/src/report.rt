@@ -35,7 +35,10 @@ impl Tally {
     pub fn none() -> Tally
         ensures { λ r. ⌜ r ≡ none-made ⌝ }
     {
-        Tally { settings: 0, derivations: 0 }
+        Tally {
+            settings: 0,
+            derivations: 0,
+        }
     }
 
     // One step more.
@@ -43,8 +46,14 @@ impl Tally {
         ensures { λ r. ⌜ r ≡ counted self step ⌝ }
     {
         match step {
-            Step::Setting => Tally { settings: self.settings.saturating_add(1), derivations: self.derivations },
-            Step::Derivation => Tally { settings: self.settings, derivations: self.derivations.saturating_add(1) },
+            Step::Setting => Tally {
+                settings: self.settings.saturating_add(1),
+                derivations: self.derivations,
+            },
+            Step::Derivation => Tally {
+                settings: self.settings,
+                derivations: self.derivations.saturating_add(1),
+            },
         }
     }
 }

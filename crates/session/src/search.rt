@@ -5,10 +5,10 @@ ghost use lib.ListN.{length, getD, take, replicate};
 ghost use Rattle.std.specs.declared.option.Option.the-variants.{None};
 ghost use Rattle.clause.specs.Words.{upto};
 ghost use Rattle.session.specs.Searching.{fresh, setting, cleared, derived, refuted, satisfied, admitted, reasonIn, reasonOf, withdrawn};
-use clause::refusal::Refusal;
-use clause::words::Clause;
 use crate::report::Step;
 use crate::report::Tally;
+use clause::refusal::Refusal;
+use clause::words::Clause;
 
 // How far a session has come: refused at its opening, without a verdict, or with one. A refuted session keeps the two entries that gave the empty clause.
 #[derive(Clone, Copy)]
@@ -35,7 +35,14 @@ impl Search {
     pub fn new(atoms: u32, phase: Phase) -> Search
         ensures { λ r. ⌜ r ≡ fresh atoms phase ⌝ }
     {
-        Search { atoms, phase, valuation: 0, reasons: [None; 64], made: Tally::none(), given: 0 }
+        Search {
+            atoms,
+            phase,
+            valuation: 0,
+            reasons: [None; 64],
+            made: Tally::none(),
+            given: 0,
+        }
     }
 
     // The reason of the atom, nothing where it has none.

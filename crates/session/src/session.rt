@@ -2,23 +2,25 @@ ghost use mathlib.Core.Path.{_≡_};
 ghost use Prim.Native.Nat.{ℕ, _≤_};
 ghost use denote.Ref.{now as seen, name};
 ghost use Rattle.clause.specs.Refusals.{answer};
-ghost use Rattle.store.specs.Held.{Held, entryAt};
+ghost use Rattle.store.specs.Held.{Held, entryAt, leastFalse};
 ghost use Rattle.session.specs.Reports.{none-made, runAnswer};
 ghost use Rattle.session.specs.Steps.{after, step, stepAt, runs};
 ghost use lib.Dec.{eqb};
-ghost use lib.ListN.{length};
 ghost use Rattle.clause.specs.Clauses.{lits, top};
 ghost use Rattle.session.specs.Calls.{due, opening, opened, add, addClause, run, shown};
-use clause::refusal::Refusal;
-use clause::words::Clause;
-use store::entry::Entry;
-use store::store::ClauseStore;
+
+pub mod questions;
+
 use crate::report::Outcome;
 use crate::report::Report;
 use crate::report::Step;
 use crate::report::Tally;
 use crate::search::Phase;
 use crate::search::Search;
+use clause::refusal::Refusal;
+use clause::words::Clause;
+use store::entry::Entry;
+use store::store::ClauseStore;
 
 // A session over a lent store. While it lasts, its calls alone alter the store.
 #[derive(Drop)]
@@ -37,7 +39,11 @@ pub fn due_at_opening<S: ClauseStore>(atoms: u32, store: &S) -> Option<Refusal>
     if store.places() == 0 {
         return Some(Refusal::NoPlaces);
     }
-    if store.size() == 0 { None } else { Some(Refusal::StoreHoldsEntry) }
+    if store.size() == 0 {
+        None
+    } else {
+        Some(Refusal::StoreHoldsEntry)
+    }
 }
 
 fn phase_of(refusal: Option<Refusal>) -> Phase
@@ -57,7 +63,10 @@ impl<'a, S: ClauseStore> Session<'a, S> {
         ensures search { λ r. ⌜ r .search ≡ opened atoms (held (now (store .entry))) ⌝ }
     {
         let phase = phase_of(due_at_opening(atoms, store));
-        Session { store, search: Search::new(atoms, phase) }
+        Session {
+            store,
+            search: Search::new(atoms, phase),
+        }
     }
 
     // The clause of the literals, accepted: its number.
@@ -114,26 +123,45 @@ impl<'a, S: ClauseStore> Session<'a, S> {
         let mut left = budget;
         let mut made = Tally::none();
         loop {
-            let found = self.store.least_false(self.search.valuation);
+            let found = self.first_false();
             match (self.search.phase, found, left) {
                 (Phase::Unopened(e), _, _) => return Err(e),
                 (Phase::Refuted(_, _), _, _) => {
-                    return Ok(Report { outcome: Outcome::Unsatisfiable, made });
+                    return Ok(Report {
+                        outcome: Outcome::Unsatisfiable,
+                        made,
+                    });
                 }
                 (_, None, _) => {
                     self.search.satisfy();
-                    return Ok(Report { outcome: Outcome::Satisfiable, made });
+                    return Ok(Report {
+                        outcome: Outcome::Satisfiable,
+                        made,
+                    });
                 }
                 (_, Some(_), 0) => {
-                    return Ok(Report { outcome: Outcome::Stopped(Refusal::BudgetUsedUp), made });
+                    return Ok(Report {
+                        outcome: Outcome::Stopped(Refusal::BudgetUsedUp),
+                        made,
+                    });
                 }
                 (_, Some(k), _) => match self.act(k) {
                     Ok(step) => made = made.counted(step),
-                    Err(e) => return Ok(Report { outcome: Outcome::Stopped(e), made }),
+                    Err(e) => return Ok(Report {
+                        outcome: Outcome::Stopped(e),
+                        made,
+                    }),
                 },
             }
             left -= 1;
         }
+    }
+
+    // The number of the first held clause in clause order that is false.
+    fn first_false(&self) -> Option<u16>
+        ensures { λ r. ⌜ r ≡ leastFalse (held (seen (now (self .entry) .store))) (now (self .entry) .search .valuation) ⌝ }
+    {
+        self.store.least_false(self.search.valuation)
     }
 
     // The step that acts on entry k.
@@ -190,31 +218,5 @@ impl<'a, S: ClauseStore> Session<'a, S> {
             Phase::Satisfied => Ok(self.search.valuation),
             _ => Err(Refusal::NoVerdict),
         }
-    }
-
-    // What the session keeps beside its store.
-    pub fn search(&self) -> Search
-        ensures { λ r. ⌜ r ≡ now (self .entry) .search ⌝ }
-    {
-        self.search
-    }
-
-    // Entry k of the store, nothing outside 1 to its size.
-    pub fn entry(&self, k: u16) -> Option<Entry>
-        ensures { λ r. ⌜ r ≡ entryAt (held (seen (now (self .entry) .store)) .entries) k ⌝ }
-    {
-        self.store.entry(k)
-    }
-
-    pub fn size(&self) -> u16
-        ensures { λ r. ⌜ r ≡ length (held (seen (now (self .entry) .store)) .entries) ⌝ }
-    {
-        self.store.size()
-    }
-
-    pub fn places(&self) -> u16
-        ensures { λ r. ⌜ r ≡ held (seen (now (self .entry) .store)) .places ⌝ }
-    {
-        self.store.places()
     }
 }

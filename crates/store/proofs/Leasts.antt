@@ -47,8 +47,13 @@ module _ (n : ℕ) (e : Entry) (es : List Entry) (v : ℕ) where
       let w = r .within in
       let q = ap (λ (c : Clause). rank (lits c)) (r .is) in
       record {
-        index = suc (r .index); number = omega arith; within = omega arith; is = r .is; untrue = r .untrue;
-        least = each (λ c. makes v (lits c) ≡ false → rankAt es (r .index) ≤ rank (lits c)) e es (λ t. let x = f t in omega arith) (r .least) }
+        index = suc (r .index);
+        number = omega arith;
+        within = omega arith;
+        is = r .is;
+        untrue = r .untrue;
+        least = each (λ c. makes v (lits c) ≡ false → rankAt es (r .index) ≤ rank (lits c)) e es (λ t. let x = f t in omega arith) (r .least);
+      }
 
   skip : (o : Option Pick) → makes v (lits (e .clause)) ≡ true → Law (n + 1) es v o → Law n (e ∷ es) v o
   skip None t h = each (λ c. makes v (lits c) ≡ true) e es t h
@@ -56,8 +61,13 @@ module _ (n : ℕ) (e : Entry) (es : List Entry) (v : ℕ) where
 
   here : makes v (lits (e .clause)) ≡ false → ((j : ℕ) → j < length es → FalseAt es v j → rank (lits (e .clause)) ≤ rankAt es j) → First n (e ∷ es) v (record { number = n; clause = e .clause })
   here f h = record {
-      index = 0; number = omega arith; within = omega arith; is = refl; untrue = f;
-      least = each (λ c. makes v (lits c) ≡ false → rank (lits (e .clause)) ≤ rank (lits c)) e es (λ _. omega arith) h }
+    index = 0;
+    number = omega arith;
+    within = omega arith;
+    is = refl;
+    untrue = f;
+    least = each (λ c. makes v (lits c) ≡ false → rank (lits (e .clause)) ≤ rank (lits c)) e es (λ _. omega arith) h;
+  }
 
   choose : (o : Option Pick) → makes v (lits (e .clause)) ≡ false → Law (n + 1) es v o → First n (e ∷ es) v (earlier (record { number = n; clause = e .clause }) o)
   choose None f h = here f (λ j l g. absurd (both-ways _ g (h j l)))
@@ -65,8 +75,8 @@ module _ (n : ℕ) (e : Entry) (es : List Entry) (v : ℕ) where
       cond-both (ltb (rank (lits (p .clause))) (rank (lits (e .clause)))) p (record { number = n; clause = e .clause }) (First n (e ∷ es) v)
       (λ t. let x = ltb-true (rank (lits (p .clause))) (rank (lits (e .clause))) t in later p (λ _. omega arith) h)
       (λ t. let x = ltb-false (rank (lits (p .clause))) (rank (lits (e .clause))) t in
-            let q = ap (λ (c : Clause). rank (lits c)) (h .is) in
-            here f (λ j l g. let y = h .least j l g in omega arith))
+      let q = ap (λ (c : Clause). rank (lits c)) (h .is) in
+      here f (λ j l g. let y = h .least j l g in omega arith))
 
 pub least-law : (n : ℕ) (es : List Entry) (v : ℕ) → Law n es v (leastFrom n es v)
 unfolding leastFrom

@@ -61,7 +61,8 @@ least-false-law h v = go (leastFrom 1 (h .entries) v) (least-law 1 (h .entries) 
           is = rw e (entry-there (h .entries) (w .index) (w .within));
           untrue = w .untrue;
           first = by-number (λ c. makes v (lits c) ≡ false → Before (lits c) (lits (clauseAt (h .entries) (w .index))) → ⊥) (h .entries)
-            (λ j l f b. let x = w .least j l f in let y = rank-before _ _ b in omega arith) }
+              (λ j l f b. let x = w .least j l f in let y = rank-before _ _ b in omega arith);
+        }
 
 pub find-law : FindLaw
 find-law h c = go (found h c) refl
@@ -101,14 +102,16 @@ put-is h e None = refl
 
 pub put-law : PutLaw
 put-law h e =
-    let same-after = put-is h e (found h (e .clause)) in
-    (λ k x q. ap (λ (g : Held). entryAt (g .entries) k) same-after ∙ keeps (found h (e .clause)) (full h) k x q,
-     λ f. let r = holds (found h (e .clause)) refl (full h) f in (r .0, subst (λ (g : Held). Holds g (e .clause) (r .0)) (sym same-after) (r .1)))
+    let same-after = put-is h e (found h (e .clause)) in (
+      λ k x q. ap (λ (g : Held). entryAt (g .entries) k) same-after ∙ keeps (found h (e .clause)) (full h) k x q,
+      λ f. let r = holds (found h (e .clause)) refl (full h) f in (r .0, subst (λ (g : Held). Holds g (e .clause) (r .0)) (sym same-after) (r .1)),
+    )
   where
     keeps : (o : Option ℕ) (b : Bool) (k : ℕ) (x : Entry) → entryAt (h .entries) k ≡ Some x → entryAt (put-at h e o b .entries) k ≡ Some x
     keeps (Some j) b k x q = q
     keeps None true k x q = q
     keeps None false k x q = pushed-keeps (h .entries) e k x q
+
     holds : (o : Option ℕ) → found h (e .clause) ≡ o → (b : Bool) → b ≡ false → (k : ℕ) × Holds (put-at h e o b) (e .clause) k
     holds (Some j) q b f = (j, subst (λ (o : Option ℕ). Cases o (Lacks h (e .clause)) (Holds h (e .clause))) q (find-law h (e .clause)))
     holds None q true f = let z : _≡_ {A = ℕ} 0 1 = cc in absurd (omega arith)

@@ -84,7 +84,7 @@ unfoldable pub leastFrom : ℕ → List Entry → ℕ → Option Pick
 leastFrom n [] v = None
 leastFrom n (e ∷ es) v =
     cond (makes v (lits (e .clause))) (leastFrom (n + 1) es v)
-        (Some (earlier (record { number = n; clause = e .clause }) (leastFrom (n + 1) es v)))
+    (Some (earlier (record { number = n; clause = e .clause }) (leastFrom (n + 1) es v)))
 
 abbrev pub numberOf : Option Pick → Option ℕ
 numberOf None = None

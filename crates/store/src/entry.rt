@@ -13,13 +13,21 @@ impl Entry {
     pub fn given(clause: Clause) -> Entry
         ensures { λ r. ⌜ r ≡ record { clause = clause; first = 0; second = 0 } ⌝ }
     {
-        Entry { clause, first: 0, second: 0 }
+        Entry {
+            clause,
+            first: 0,
+            second: 0,
+        }
     }
 
     // The clause that came from entries `first` and `second`.
     pub fn derived(clause: Clause, first: u16, second: u16) -> Entry
         ensures { λ r. ⌜ r ≡ record { clause = clause; first = first; second = second } ⌝ }
     {
-        Entry { clause, first, second }
+        Entry {
+            clause,
+            first,
+            second,
+        }
     }
 }

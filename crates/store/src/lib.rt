@@ -1,4 +1,4 @@
 // The clause store as an interface, by its meaning.
 pub mod entry;
-pub mod store;
 pub mod laws;
+pub mod store;

@@ -2,9 +2,9 @@ ghost use mathlib.Core.Path.{_≡_};
 ghost use Prim.Native.Nat.{ℕ};
 ghost use Rattle.clause.specs.Refusals.{answer};
 ghost use Rattle.store.specs.Held.{Held, Kept, entryAt, size, found, afterPut, putAnswer, leastFalse};
+use crate::entry::Entry;
 use clause::refusal::Refusal;
 use clause::words::Clause;
-use crate::entry::Entry;
 
 // Clauses numbered from 1 by arrival, none twice, in a fixed count of places. Questions alter nothing.
 pub trait ClauseStore {

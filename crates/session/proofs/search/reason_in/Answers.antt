@@ -28,8 +28,9 @@ pub returns-then-atom-eq0 : need.returns-then-atom-eq0
 returns-then-atom-eq0 c =
     let long : length (c .args .reasons .now) ≡ 64 = omega arith in
     elim (c .then-atom-eq0 .came) [
-      then-atom-eq0·by·then-atom-eq0 w ↦ none-first (c .args .reasons .now) (c .args .atom) (w .if-atom-eq0 .taken)
-    | then-atom-eq0·by·else-atom-eq0·then-atom-gt64 w ↦ none-past (c .args .reasons .now) (c .args .atom) long (w .if-atom-gt64 .taken) ]
+      | then-atom-eq0·by·then-atom-eq0 w ↦ none-first (c .args .reasons .now) (c .args .atom) (w .if-atom-eq0 .taken)
+      | then-atom-eq0·by·else-atom-eq0·then-atom-gt64 w ↦ none-past (c .args .reasons .now) (c .args .atom) long (w .if-atom-gt64 .taken)
+    ]
 
 pub returns : need.returns
 returns c = some-at (c .args .reasons .now) (c .args .atom) (omega arith)

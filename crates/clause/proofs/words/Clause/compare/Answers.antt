@@ -1,4 +1,4 @@
-use mathlib.Core.Path.{_≡_, sym, subst}
+use mathlib.Core.Path.{_≡_, _∙_, ap, subst}
 use native.Mathlib.Omega.{arith}
 use Prim.Native.Nat.{ℕ, _-_, _<_}
 use lib.Bits.{bitXor, or-lt, xor-lt}
@@ -18,8 +18,10 @@ returns c =
     let s = c .args .self .now in
     let o = c .args .other .now in
     let small = or-lt 64 (bitXor (s .positive) (o .positive)) (bitXor (s .negative) (o .negative))
-        (xor-lt 64 (s .positive) (o .positive) (omega arith) (omega arith)) (xor-lt 64 (s .negative) (o .negative) (omega arith) (omega arith)) in
+    (xor-lt 64 (s .positive) (o .positive) (omega arith) (omega arith)) (xor-lt 64 (s .negative) (o .negative) (omega arith) (omega arith)) in
     let a = 64 - leadingZeros 64 (differing (lits s) (lits o)) in
+    let same-atom = c .highest-in-atom .ensures .value in
     let d = decided (lits s) (lits o) (apart-word _ _ (s .apart)) (apart-word _ _ (o .apart)) small (c .cmp .result)
-        (moved (treats (lits s) a) (treats (lits o) a) (c .treatment-mine .result) (c .treatment-theirs .result) (c .cmp .result) (c .treatment-mine .ensures) (c .treatment-theirs .ensures) (c .cmp .ensures)) in
+    (moved (treats (lits s) a) (treats (lits o) a) (c .treatment-mine .result) (c .treatment-theirs .result) (c .cmp .result)
+    (c .treatment-mine .ensures ∙ ap (treats (lits s)) same-atom) (c .treatment-theirs .ensures ∙ ap (treats (lits o)) same-atom) (c .cmp .ensures)) in
     record { atoms = d; ranks = ranked (lits s) (lits o) (c .cmp .result) d }

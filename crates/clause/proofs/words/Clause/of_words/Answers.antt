@@ -1,11 +1,11 @@
-use mathlib.Core.Path.{_≡_, refl, ap}
+use mathlib.Core.Path.{_≡_, refl, ap, sym, _∙_}
 use mathlib.Core.Bool.{Bool, true, false}
 use Prim.Native.Nat.{ℕ}
 use native.Mathlib.Nat.{ℕ-set}
 use native.Mathlib.Omega.{arith}
 use lib.Dec.{T}
 use lib.Bits.{bitAnd}
-use Rattle.std.proofs.shelf.Tests.{eq-eqb, ne-eqb}
+use Rattle.std.proofs.shelf.Tests.{eqb-false}
 use Rattle.std.specs.declared.option.Option.{Option}
 use Rattle.std.specs.declared.option.Option.the-variants.{None, Some}
 use Rattle.clause.specs.declared.words.Clause.{Clause}
@@ -24,14 +24,15 @@ none : (p n : ℕ) (b : Bool) (f : T b → bitAnd p n ≡ 0) → b ≡ false →
 none p n true f e = cc
 none p n false f e = refl
 
-pub returns-then-positive-negative-eq0 : need.returns-then-positive-negative-eq0
+pub returns-then-are-apart : need.returns-then-are-apart
 unfolding clauseOf
-returns-then-positive-negative-eq0 c = record {
-    value = made _ _ _ _ _ (eq-eqb _ _ (c .if-positive-negative-eq0 .taken));
-    atoms = refl }
+returns-then-are-apart c = record { value = made _ _ _ _ _ (sym (c .are-apart .ensures) ∙ c .if-are-apart .taken); atoms = refl }
 
-pub returns-else-positive-negative-eq0 : need.returns-else-positive-negative-eq0
+pub returns-else-are-apart : need.returns-else-are-apart
 unfolding clauseOf
-returns-else-positive-negative-eq0 c = record {
-    value = none _ _ _ _ (ne-eqb _ _ (c .if-positive-negative-eq0 .left));
-    atoms = shares-word (c .args .positive) (c .args .negative) (omega arith) (c .if-positive-negative-eq0 .left) }
+returns-else-are-apart c =
+    let e = sym (c .are-apart .ensures) ∙ c .if-are-apart .left in
+    record {
+      value = none _ _ _ _ e;
+      atoms = shares-word (c .args .positive) (c .args .negative) (omega arith) (eqb-false _ _ e);
+    }
