@@ -1,0 +1,15 @@
+pub mod Least
+pub mod Resolve
+pub mod Entries
+pub mod Reasons
+pub mod Peaks
+pub mod Counts
+pub mod Settings
+pub mod Growth
+pub mod Derivations
+pub mod Steps
+pub mod Runs
+pub mod Targets
+pub mod Opens
+pub mod Literals
+pub mod Adds
