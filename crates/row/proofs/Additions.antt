@@ -1,12 +1,12 @@
 -- What an addition to a row leaves, whether the row was in order or not.
 use mathlib.Core.Path.{_≡_, refl, sym, ap, subst, _∙_}
 use mathlib.Core.List.{List}
-use Prim.Native.Nat.{ℕ, _+_, _≤_, _<_}
+use Prim.Native.Nat.{ℕ, _+_, _<_}
 use native.Mathlib.Omega.{arith}
 use lib.ListN.{length, drop}
 use Rattle.row.specs.declared.Added.{Added}
 use Rattle.row.specs.declared.Added.the-variants.{Held, New, Full}
-use Rattle.row.specs.Order.{Ascending, Sound, room, used, Lacks, Seat, seated}
+use Rattle.row.specs.Order.{Ascending, Sound, room, used, seated}
 use Rattle.row.specs.Adds.{Alters, grown, Decides, Adds}
 use Rattle.row.proofs.Seats.{ascending-seated, length-seated, drop-seated}
 

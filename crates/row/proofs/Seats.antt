@@ -44,10 +44,6 @@ over-read key xs n k mid m up l f e h j d b t =
     ⊎-elim (λ (s : mid < j). omega (arith, up mid j d s t))
     (λ (s : j ≤ mid). let i : j ≡ mid = omega arith in omega (arith, ap (λ i. key (getD xs i d)) i)) (cases-lt mid j)
 
--- the search has closed in on the seat
-pub seat-met : {R : Type 0} (key : R → ℕ) (xs : List R) (n k low high : ℕ) → low ≤ high → high ≤ n → high ≤ low → Under key xs low k × Over key xs high n k → Seat key xs n k low
-seat-met key xs n k low high l h m p = record { within = omega arith; under = p .0; over = λ j d b. p .1 j d (omega arith) }
-
 pub not-less : (a b : ℕ) (o : Ordering) → Compares a b o → (o ≡ Less → ⊥) → b ≤ a
 not-less a b Less h n = absurd (n refl)
 not-less a b Equal h n = omega arith

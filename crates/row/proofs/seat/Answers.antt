@@ -1,5 +1,5 @@
 use native.Mathlib.Omega.{arith}
-use Rattle.row.proofs.Seats.{under-read, over-read, not-less, seat-met}
+use Rattle.row.proofs.Seats.{under-read, over-read, not-less}
 use Rattle.row.proofs.seat.Needs as need
 
 pub loop-low-again-in-Less : need.loop-low-again-in-Less

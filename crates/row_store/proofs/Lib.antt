@@ -1,0 +1,4 @@
+pub mod Puts
+pub mod Arrivals
+pub mod InOrder
+pub mod Stores
