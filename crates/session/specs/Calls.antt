@@ -1,8 +1,8 @@
 -- The calls of a session: what each answers, and what session and store then hold.
 use mathlib.Core.Path.{_≡_}
 use mathlib.Core.Bool.{Bool, true, false, cond, not}
-use mathlib.Core.List.{List}
-use Prim.Native.Nat.{ℕ}
+use mathlib.Core.List.{List, [], _∷_}
+use Prim.Native.Nat.{ℕ, _-_}
 use lib.Dec.{eqb, ltb}
 use lib.IntN.{ℤ}
 use lib.ListN.{length}
@@ -16,6 +16,7 @@ use Rattle.clause.specs.declared.refusal.Refusal.the-variants.{AtomCount, NoPla
 use Rattle.clause.specs.Clauses.{lits, top}
 use Rattle.clause.specs.Reading.{reads, clear, outside}
 use Rattle.clause.specs.Refusals.{Told, told, refused}
+use Rattle.dimacs.specs.Walk.{Parsed, parse}
 use Rattle.store.specs.declared.entry.Entry.{Entry}
 use Rattle.store.specs.Held.{Held, found, afterPut, putAnswer}
 use Rattle.session.specs.declared.search.Search.{Search}
@@ -66,6 +67,31 @@ addIn h s ls (Refuted i j) = addRead h s (reads (s .atoms) 0 clear ls)
 
 abbrev pub add : Held → Search → List ℤ → After (Result ℕ Told)
 add h s ls = addIn h s ls (s .phase)
+
+-- the clauses accepted one after the other; m is the answer
+abbrev pub loads : ℕ → Held → Search → List Clause → After (Result ℕ Told)
+loads m h s [] = after h s (Ok m)
+loads m h s (c ∷ cs) =
+    loads m (addClause h s c (eqb (top (lits c)) 0) .held) (addClause h s c (eqb (top (lits c)) 0) .search) cs
+
+-- all clauses, where there is a free place for each, even where they repeat
+abbrev pub loadAll : Held → Search → List Clause → Bool → After (Result ℕ Told)
+loadAll h s cs true = after h s (Err (refused 10 0))
+loadAll h s cs false = loads (length cs) h s cs
+
+abbrev pub loadParsed : Held → Search → Result Parsed Told → After (Result ℕ Told)
+loadParsed h s (Ok p) = loadAll h s (p .clauses) (ltb (h .places - length (h .entries)) (length (p .clauses)))
+loadParsed h s (Err e) = after h s (Err e)
+
+-- load: the clauses of a text in order, or none of them
+abbrev pub loadIn : Held → Search → List ℕ → Phase → After (Result ℕ Told)
+loadIn h s bs (Unopened e) = after h s (Err (told e))
+loadIn h s bs Undecided = loadParsed h s (parse (s .atoms) bs)
+loadIn h s bs Satisfied = loadParsed h s (parse (s .atoms) bs)
+loadIn h s bs (Refuted i j) = loadParsed h s (parse (s .atoms) bs)
+
+abbrev pub load : Held → Search → List ℕ → After (Result ℕ Told)
+load h s bs = loadIn h s bs (s .phase)
 
 -- run: a budget above 2,000,000 is refused before anything is looked at
 abbrev pub allowed : Held → Search → ℕ → Bool → After (Result Ended Told)

@@ -1,13 +1,18 @@
 ghost use mathlib.Core.Path.{_≡_};
-ghost use Prim.Native.Nat.{ℕ, _≤_};
+ghost use mathlib.Core.Bool.{true, not};
+ghost use Prim.Native.Nat.{ℕ, _-_, _≤_};
+ghost use Rattle.std.specs.declared.result.Result.the-variants.{Ok};
+ghost use lib.ListN.{length};
+ghost use Rattle.dimacs.specs.ToCome.{to-come};
+ghost use Rattle.dimacs.specs.Walk.{Parsed, parse};
 ghost use denote.Ref.{now as seen, name};
 ghost use Rattle.clause.specs.Refusals.{answer};
 ghost use Rattle.store.specs.Held.{Held, entryAt, leastFalse};
 ghost use Rattle.session.specs.Reports.{none-made, runAnswer};
 ghost use Rattle.session.specs.Steps.{after, step, stepAt, runs};
-ghost use lib.Dec.{eqb};
+ghost use lib.Dec.{eqb, ltb};
 ghost use Rattle.clause.specs.Clauses.{lits, top};
-ghost use Rattle.session.specs.Calls.{due, opening, opened, add, addClause, run, shown};
+ghost use Rattle.session.specs.Calls.{due, opening, opened, add, addClause, load, loadAll, loads, run, shown};
 
 pub mod questions;
 
@@ -19,6 +24,8 @@ use crate::search::Phase;
 use crate::search::Search;
 use clause::refusal::Refusal;
 use clause::words::Clause;
+use dimacs::check::check;
+use dimacs::clauses::Clauses;
 use store::entry::Entry;
 use store::store::ClauseStore;
 
@@ -99,6 +106,50 @@ impl<'a, S: ClauseStore> Session<'a, S> {
                 Ok(k)
             }
             Err(e) => Err(e),
+        }
+    }
+
+    // The clauses of the text, accepted in order, or none of them: how many there are.
+    pub fn load(&mut self, text: &[u8]) -> Result<u16, Refusal>
+        ensures named { λ _. ⌜ name (now (self .exit) .store) ≡ name (now (self .entry) .store) ⌝ }
+        ensures made { λ r. ⌜ after (held (seen (now (self .exit) .store))) (now (self .exit) .search) (answer r) ≡ load (held (seen (now (self .entry) .store))) (now (self .entry) .search) (now (text .entry)) ⌝ }
+    {
+        if let Phase::Unopened(e) = self.search.phase {
+            return Err(e);
+        }
+        match check(text, self.search.atoms) {
+            Ok(heading) => self.load_checked(text, heading.clauses),
+            Err(e) => Err(e),
+        }
+    }
+
+    // The same of a text that was found to have `count` clauses and no fault.
+    fn load_checked(&mut self, text: &[u8], count: u32) -> Result<u16, Refusal>
+        ensures named { λ _. ⌜ name (now (self .exit) .store) ≡ name (now (self .entry) .store) ⌝ }
+        ensures made { λ r. ⌜ ((p : Parsed) → parse (now (self .entry) .search .atoms) (now (text .entry)) ≡ Ok p → length (p .clauses) ≡ count → after (held (seen (now (self .exit) .store))) (now (self .exit) .search) (answer r) ≡ loadAll (held (seen (now (self .entry) .store))) (now (self .entry) .search) (p .clauses) (ltb (held (seen (now (self .entry) .store)) .places - length (held (seen (now (self .entry) .store)) .entries)) (length (p .clauses)))) ⌝ }
+    {
+        if self.has_free(count) {
+            let mut clauses = Clauses::new(text, self.search.atoms);
+            self.accept_all(&mut clauses);
+            return Ok(count as u16);
+        }
+        Err(Refusal::NoPlaceFree)
+    }
+
+    // Whether so many places are free.
+    fn has_free(&self, count: u32) -> bool
+        ensures value { λ r. ⌜ r ≡ not (ltb (held (seen (now (self .entry) .store)) .places - length (held (seen (now (self .entry) .store)) .entries)) count) ⌝ }
+        ensures few { λ r. ⌜ (r ≡ true → count ≤ 16384) ⌝ }
+    {
+        count <= u32::from(self.store.places() - self.store.size())
+    }
+
+    fn accept_all(&mut self, clauses: &mut Clauses<'_>)
+        ensures named { λ _. ⌜ name (now (self .exit) .store) ≡ name (now (self .entry) .store) ⌝ }
+        ensures made { λ _. ⌜ ((m : ℕ) → after (held (seen (now (self .exit) .store))) (now (self .exit) .search) (Ok m) ≡ loads m (held (seen (now (self .entry) .store))) (now (self .entry) .search) (to-come (now (clauses .entry)))) ⌝ }
+    {
+        while let Some(clause) = clauses.next_clause() {
+            let _ = self.accept(&clause);
         }
     }
 

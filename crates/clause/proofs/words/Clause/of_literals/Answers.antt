@@ -30,7 +30,7 @@ returns-in-None c =
     let f : SFits w32 (getD (c .args .literals .now) (c .loop-i .i) (pos 0)) = search needs in
     record {
       value = reads-both (c .args .atoms) (c .loop-i .i) (c .loop-i .clause) (c .args .literals .now) _ (omega arith) (toZ-ofZ f) _ (c .unsigned-abs-atom .ensures .value) (sym (c .is-outside .ensures) ∙ c .if-is-outside .left)
-          (sym (c .with-literal .ensures) ∙ c .in-None .is)
+          (sym (c .grow .ensures) ∙ c .in-None .is)
           ∙ c .loop-i .inv;
       atoms = tt;
     }
@@ -39,7 +39,7 @@ pub loop-i-again : need.loop-i-again
 loop-i-again c =
     let f : SFits w32 (getD (c .args .literals .now) (c .loop-i .i) (pos 0)) = search needs in
     reads-next (c .args .atoms) (c .loop-i .i) (c .loop-i .clause) (c .args .literals .now) _ (omega arith) (toZ-ofZ f) _ (c .in-Some .grown) (c .unsigned-abs-atom .ensures .value) (sym (c .is-outside .ensures) ∙ c .if-is-outside .left)
-    (sym (c .with-literal .ensures) ∙ c .in-Some .is)
+    (sym (c .grow .ensures) ∙ c .in-Some .is)
     ∙ c .loop-i .inv
 
 pub returns : need.returns

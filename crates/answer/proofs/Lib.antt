@@ -1,0 +1,2 @@
+mod Wrote
+mod Answers

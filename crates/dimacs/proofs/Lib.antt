@@ -1,0 +1,4 @@
+pub mod Capped
+pub mod Courses
+pub mod Lead
+pub mod Split

@@ -1,0 +1,9 @@
+pub mod Runs
+pub mod Words
+pub mod Numbers
+pub mod Preface
+pub mod Reading
+pub mod Body
+pub mod Heading
+pub mod Walk
+pub mod ToCome

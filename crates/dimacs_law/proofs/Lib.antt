@@ -1,0 +1,7 @@
+mod Cuts
+mod Lines
+mod Numerals
+mod Sets
+mod Walks
+mod Headings
+mod Texts
