@@ -15,7 +15,6 @@ pub enum Refusal {
     ClauseCount(usize),
     NoPlaceFree,
     NoVerdict,
-    TooShort,
     DerivedBothSigns,
     BudgetUsedUp,
 }
@@ -36,7 +35,6 @@ impl Refusal {
             Refusal::ClauseCount(_) => 9,
             Refusal::NoPlaceFree => 10,
             Refusal::NoVerdict => 11,
-            Refusal::TooShort => 12,
             Refusal::DerivedBothSigns => 13,
             Refusal::BudgetUsedUp => 14,
         }

@@ -48,7 +48,6 @@ ended o s d = Ok (record { outcome = o; made = record { settings = s; derivation
 abbrev pub shows : {X : Type 0} → After X → Result ℕ Told
 shows a = shown (a .search)
 
-
 -- {1,3}, {-3,2}, {-2}
 abbrev pub chain : List (List ℤ)
 chain = (pos 1 ∷ pos 3 ∷ []) ∷ (negsuc 2 ∷ pos 2 ∷ []) ∷ (negsuc 1 ∷ []) ∷ []

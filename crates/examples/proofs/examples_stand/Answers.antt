@@ -9,6 +9,15 @@ use Rattle.examples.proofs.examples_stand.Needs as need
 
 pub returns : need.returns
 unfolding at one with-atom without upto makes-to top-to clauseOf joined rank-to grown reads findFrom leastFrom reasonIn setting cleared
-returns c =
-    ((refl, refl), (refl, refl, refl), (refl, refl), (refl, refl), (refl, refl), (refl, refl), refl, (refl, refl),
-      (refl, refl, refl, refl, refl, refl, refl), (refl, refl, refl, refl, refl, refl))
+returns c = (
+  (refl, refl),
+  (refl, refl, refl),
+  (refl, refl),
+  (refl, refl),
+  (refl, refl),
+  (refl, refl),
+  refl,
+  (refl, refl),
+  (refl, refl, refl, refl, refl, refl, refl),
+  (refl, refl, refl, refl, refl, refl),
+)
