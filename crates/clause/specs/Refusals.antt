@@ -5,7 +5,7 @@ use lib.Dec.{eqb, leb}
 use Rattle.std.specs.declared.result.Result.{Result}
 use Rattle.std.specs.declared.result.Result.the-variants.{Ok, Err}
 use Rattle.clause.specs.declared.refusal.Refusal.{Refusal}
-use Rattle.clause.specs.declared.refusal.Refusal.the-variants.{AtomCount, NoPlaces, StoreHoldsEntry, TooLarge, MalformedWord, OutOfRange, BothSigns, NoLiteral, ClauseCount, NoPlaceFree, NoVerdict, DerivedBothSigns, BudgetUsedUp}
+use Rattle.clause.specs.declared.refusal.Refusal.the-variants.{AtomCount, NoPlaces, StoreHoldsEntry, TooLarge, MalformedWord, OutOfRange, BothSigns, NoLiteral, ClauseCount, NoPlaceFree, NoVerdict, TooShort, DerivedBothSigns, BudgetUsedUp}
 
 pub record Told : Type 0 where
   pub number : ℕ
@@ -31,6 +31,7 @@ told (NoLiteral i) = refused 8 i
 told (ClauseCount i) = refused 9 i
 told NoPlaceFree = refused 10 0
 told NoVerdict = refused 11 0
+told TooShort = refused 12 0
 told DerivedBothSigns = refused 13 0
 told BudgetUsedUp = refused 14 0
 

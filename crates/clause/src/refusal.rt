@@ -15,6 +15,7 @@ pub enum Refusal {
     ClauseCount(usize),
     NoPlaceFree,
     NoVerdict,
+    TooShort,
     DerivedBothSigns,
     BudgetUsedUp,
 }
@@ -35,6 +36,7 @@ impl Refusal {
             Refusal::ClauseCount(_) => 9,
             Refusal::NoPlaceFree => 10,
             Refusal::NoVerdict => 11,
+            Refusal::TooShort => 12,
             Refusal::DerivedBothSigns => 13,
             Refusal::BudgetUsedUp => 14,
         }

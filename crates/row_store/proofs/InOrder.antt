@@ -21,10 +21,11 @@ use Rattle.row.proofs.Additions.{used-all}
 use Rattle.row.proofs.Seats.{below-seat, at-seat, above-seat, came}
 use Rattle.row_store.specs.declared.slot.Slot.{Slot}
 use Rattle.row_store.specs.Seats.{vacant, Words, recordOf, entryOf, place, sitting, arrivals, heldOf, Ordered, moved, Makes-way, AllTrue, FirstFalse}
-use Rattle.row_store.specs.Keeps.{same-rank, other-rank, length-arrivals, clause-at, rank-at, seats-apart, places-apart}
+use Rattle.row_store.specs.Keeps.{length-arrivals, clause-at, rank-at, seats-apart, places-apart}
 use Rattle.store.proofs.Finds.{find-none, find-from}
 use Rattle.store.proofs.Leasts.{least-none, least-is}
-use Rattle.row_store.proofs.Puts.{rank-same, put-found, put-full, put-new}
+use Rattle.store.proofs.Puts.{put-found, put-full, put-new}
+use Rattle.store.proofs.Sames.{same-rank, other-rank, rank-same}
 use Rattle.row_store.proofs.Arrivals.{arrivals-more}
 
 module _ (xs : List Slot) (ss : List ℕ) (n p : ℕ) (o : Ordered xs ss n p) where

@@ -1,4 +1,3 @@
-pub mod Puts
 pub mod Arrivals
 pub mod InOrder
 pub mod Stores

@@ -1,35 +1,19 @@
 -- A store whose records and seats are right keeps what every store keeps: the store's ghost member cites this.
 use mathlib.Core.Path.{_≡_, refl, sym, ap, _∙_}
-use mathlib.Core.Bool.{true, false}
 use mathlib.Core.Logic.{inl, inr}
 use mathlib.Core.List.{List, [], _∷_}
 use Prim.Native.Nat.{ℕ, zero, suc, _<_}
 use native.Mathlib.Omega.{arith}
-use lib.Dec.{eqb}
 use lib.ListN.{length, getD}
 use Rattle.std.proofs.shelf.Lists.{length-push, getD-push, getD-append-left}
-use Rattle.std.proofs.shelf.Tests.{cases-bool, cases-lt, cases-order, eqb-true, and-parts}
-use Rattle.clause.specs.declared.words.Clause.{Clause}
-use Rattle.clause.specs.Clauses.{Literals, lits, same}
+use Rattle.std.proofs.shelf.Tests.{cases-lt, cases-order}
+use Rattle.clause.specs.Clauses.{lits}
 use Rattle.clause.specs.Order.{rank}
 use Rattle.store.specs.declared.entry.Entry.{Entry}
 use Rattle.store.specs.Held.{Kept, clauseAt, blank}
+use Rattle.store.proofs.Sames.{other-rank}
 use Rattle.row_store.specs.declared.slot.Slot.{Slot}
 use Rattle.row_store.specs.Seats.{vacant, entryOf, place, sitting, arrivals, heldOf, Ordered}
-
--- the same literals have the same place in clause order
-pub same-rank : (c d : Clause) → same c d ≡ true → rank (lits c) ≡ rank (lits d)
-same-rank c d t =
-    let p = and-parts (eqb (c .positive) (d .positive)) (eqb (c .negative) (d .negative)) t in
-    let a : c .positive ≡ d .positive = eqb-true _ _ (p .0) in
-    let b : c .negative ≡ d .negative = eqb-true _ _ (p .1) in
-    ap rank (words (c .positive) (d .positive) (c .negative) (d .negative) a b)
-  where
-    words : (a b c d : ℕ) → a ≡ b → c ≡ d → _≡_ {A = Literals} (record { pos = a; neg = c }) (record { pos = b; neg = d })
-    words a b c d e f = cc
-
-pub other-rank : (c d : Clause) → (rank (lits c) ≡ rank (lits d) → ⊥) → same c d ≡ false
-other-rank c d f = elim (cases-bool (same c d)) [ inl t ↦ absurd (f (same-rank c d t)) | inr e ↦ e ]
 
 pub length-arrivals : (xs : List Slot) (ss : List ℕ) (n : ℕ) → length (arrivals xs ss n) ≡ n
 unfolding arrivals

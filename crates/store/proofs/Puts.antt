@@ -1,26 +1,13 @@
 -- What a put comes to, by what was found and whether a place is free.
 use mathlib.Core.Path.{_≡_}
-use mathlib.Core.Bool.{true}
 use Prim.Native.Nat.{ℕ, _+_}
 use lib.ListN.{length}
-use Rattle.std.proofs.shelf.Tests.{eq-eqb, ne-eqb, and-from}
+use Rattle.std.proofs.shelf.Tests.{eq-eqb, ne-eqb}
 use Rattle.std.specs.declared.option.Option.the-variants.{None, Some}
 use Rattle.std.specs.declared.result.Result.the-variants.{Ok, Err}
-use Rattle.clause.specs.declared.words.Clause.{Clause}
-use Rattle.clause.specs.Clauses.{lits, same}
-use Rattle.clause.specs.Order.{rank}
 use Rattle.clause.specs.Refusals.{refused}
-use Rattle.clause.proofs.Ranks.{alike-words}
-use Rattle.clause.proofs.Truths.{apart-word}
 use Rattle.store.specs.declared.entry.Entry.{Entry}
 use Rattle.store.specs.Held.{Held, found, putAnswer, afterPut, pushed}
-use Rattle.row_store.specs.Seats.{Words}
-
--- the same place in clause order, the same literals
-pub rank-same : (c d : Clause) → Words c → Words d → rank (lits c) ≡ rank (lits d) → same c d ≡ true
-rank-same c d f g e =
-    let w = alike-words (lits c) (lits d) (apart-word _ _ (c .apart)) (apart-word _ _ (d .apart)) (f .0) (g .0) (f .1) (g .1) e in
-    and-from _ _ (eq-eqb (c .positive) (d .positive) (w .0)) (eq-eqb (c .negative) (d .negative) (w .1))
 
 module _ (h : Held) (e : Entry) where
   pub put-found : (k : ℕ) → found h (e .clause) ≡ Some k → (putAnswer h e ≡ Ok k) × (afterPut h e ≡ h)

@@ -1,0 +1,4 @@
+pub mod Numbers
+pub mod Requests
+pub mod Lines
+pub mod Scripts

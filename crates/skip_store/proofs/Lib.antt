@@ -1,0 +1,9 @@
+mod Theory
+mod Levels
+mod Spots
+mod Fresh
+mod Joining
+mod Walks
+mod Growth
+mod Meaning
+mod Props

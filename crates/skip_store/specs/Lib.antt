@@ -1,0 +1,3 @@
+pub mod Links
+pub mod Keeps
+pub mod Lists
