@@ -1,4 +1,6 @@
 // The answer call: a text in, its verdict printed into the caller's buffer.
+#![tactic(auto)]
+
 pub mod call;
 pub mod host;
 mod print;

@@ -1,4 +1,6 @@
 // Clauses as two words of atoms, and the refusals of the whole library.
+#![tactic(auto)]
+
 pub mod clause_of;
 pub mod literals;
 pub mod order;

@@ -1,4 +1,6 @@
 // Feeds standard input to the answer call, and writes what it prints.
+#![tactic(auto)]
+
 use answer::call::answer;
 use std::io;
 use std::io::{Read, Write};

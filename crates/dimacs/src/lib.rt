@@ -1,4 +1,6 @@
 // Texts of clauses in DIMACS form: their words as parts of the text, their heading, and their clauses one by one.
+#![tactic(auto)]
+
 mod body;
 pub mod check;
 pub mod clauses;

@@ -1,4 +1,6 @@
 // Laws of the texts that are read: their words, what stands before their heading, when they are accepted, and examples.
+#![tactic(auto)]
+
 ghost use Rattle.dimacs_law.specs.Cut.{WordsAreTheCut};
 ghost use Rattle.dimacs_law.specs.Lines.{PrefaceIsLines};
 ghost use Rattle.dimacs_law.specs.Examples.{Reads, Faults};

@@ -1,5 +1,7 @@
 // Reads a trace from standard input and prints whether it is sound, or the number and the place of its first fault.
-use check::judge::judge_trace;
+#![tactic(auto)]
+
+use trace_check::judge::judge_trace;
 use std::io;
 use std::io::Read;
 

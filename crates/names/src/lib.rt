@@ -1,4 +1,6 @@
 // Names of atoms, and the table that gives each new name the next atom.
+#![tactic(auto)]
+
 pub mod calls;
 pub mod laws;
 pub mod name;

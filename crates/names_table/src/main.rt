@@ -1,5 +1,7 @@
 // Gives words of all kinds to name tables of several sizes, and prints what they answer:
 // an atom, or number, place and layer of a refusal, or - for nothing.
+#![tactic(auto)]
+
 ghost use Rattle.std.specs.Prelude.{◌≡◌, ◌-◌, ◌/◌, ◌%◌, ◌<◌, [], ◌∷◌};
 
 use clause::refusal::Refusal;

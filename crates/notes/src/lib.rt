@@ -1,4 +1,6 @@
 // The printed lines that are no items of a session.
+#![tactic(auto)]
+
 ghost use Rattle.std.specs.Prelude.{◌≡◌, IfOk, string_bytes};
 ghost use Rattle.notes.specs.Notes.{not_understood, no_session, stores_differ, atom_text};
 

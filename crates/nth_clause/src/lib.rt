@@ -1,4 +1,6 @@
 // Clauses numbered in clause order, for tests and measurements of the stores.
+#![tactic(auto)]
+
 ghost use Rattle.std.specs.Prelude.{◌≡◌, ◌^◌, ◌<◌, ◌≤◌};
 ghost use Rattle.clause.specs.Clauses.{lits};
 ghost use Rattle.nth_clause.specs.Digits.{unit, word, nth, InOrder};

@@ -1,3 +1,5 @@
+#![tactic(auto)]
+
 ghost use Rattle.std.specs.Prelude.{◌≡◌, ℕ, ◌+◌, ◌-◌, ◌<◌, ◌≤◌, min, length, take, drop, MatchOption, slice_index_or};
 ghost use Rattle.row.specs.Order.{Compares, Ascending, Sound, room, used, Seat, Lacks, Holds, seated};
 ghost use Rattle.row.specs.Adds.{Inside, Located, Alters, grown, Decides, Adds};

@@ -1,4 +1,6 @@
 // Clauses in clause order in the caller's memory, numbered by arrival.
+#![tactic(auto)]
+
 pub mod bench;
 pub mod ordered;
 pub mod scan;

@@ -1,5 +1,6 @@
 // Scripts: lines of words, and the requests that they are.
-pub mod reading;
+#![tactic(auto)]
+
+pub mod number;
 pub mod request;
-pub mod term;
 pub mod text;

@@ -2,7 +2,6 @@ pub mod Least
 pub mod Resolve
 pub mod Entries
 pub mod Reasons
-pub mod Sources
 pub mod Peaks
 pub mod Counts
 pub mod Settings
@@ -13,8 +12,4 @@ pub mod Runs
 pub mod Targets
 pub mod Opens
 pub mod Literals
-pub mod Texts
-pub mod Accepts
 pub mod Adds
-pub mod Loads
-pub mod Decides

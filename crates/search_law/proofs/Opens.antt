@@ -1,5 +1,5 @@
 -- An opening without refusal begins with the invariant.
-use Rattle.std.proofs.Common.{◌≡◌, ℕ, zero, suc, ◌<◌, ◌≤◌, Bool, true, false, cond, eqb, ltb, ◌⊎◌, [], replicate, Some, None, Option, sym, refl, subst, ⊎_elim, arith, lit<}
+use Rattle.std.proofs.Common.{◌≡◌, ℕ, zero, suc, ◌+◌, ◌*◌, ◌^◌, ◌<◌, ◌≤◌, min, Bool, true, false, cond, ◌||◌, eqb, ltb, ◌⊎◌, List, [], length, get_or, replicate, Some, None, Option, sym, refl, ap, ◌∙◌, subst, ⊎_elim, arith, lit<}
 use Rattle.std.proofs.lemmas.List.{get_or-replicate, get_or_past, length-replicate}
 use Rattle.std.proofs.lemmas.Bool.{cases_lt, both_ways, or_parts, eqb-true, ltb-false}
 use Rattle.clause.specs.declared.refusal.Refusal.{Refusal}
@@ -7,9 +7,8 @@ use Rattle.clause.specs.declared.refusal.Refusal.TheVariants.{AtomCount, NoPlace
 use Rattle.clause.specs.Reading.{outside}
 use Rattle.clause.proofs.Bits.{at_zero}
 use Rattle.store.specs.Held.{Held, Kept, size}
-use Rattle.store.proofs.Meanings.{entry_seen}
-use Rattle.search.specs.declared.search.Phase.TheVariants.{Undecided}
-use Rattle.search.specs.Searching.{fresh, reason_in}
+use Rattle.session.specs.declared.search.Phase.TheVariants.{Undecided}
+use Rattle.session.specs.Searching.{fresh, reason_in}
 use Rattle.session.specs.Calls.{due, opening}
 use Rattle.search_law.specs.Law.{Inv, OpenLaw}
 
@@ -37,7 +36,6 @@ begins n h k l z = record {
   below = λ i p q. absurd (omega arith);
   ordinary = λ i q. absurd (omega arith);
   says = tt;
-  rooted = record { held = λ k e q. let w = (entry_seen h.entries k e q).within in absurd (omega arith); close = tt };
   few = l;
   room = k.within;
   limit = k.few;
@@ -46,10 +44,6 @@ begins n h k l z = record {
   entries = omega arith;
   settings = omega arith;
 }
-
--- the store is empty
-pub none_held : (n : ℕ) (h : Held) → due n h ≡ None → size h ≡ 0
-none_held n h e = eqb-true (size h) 0 (none_due (outside 64 n) (eqb h.places 0) (eqb (size h) 0) e).1
 
 pub open_law : OpenLaw
 open_law n h k e =

@@ -1,32 +1,33 @@
 -- A run keeps the invariant, says what holds, and an ample budget is not used up.
-use Rattle.std.proofs.Common.{◌≡◌, ℕ, zero, suc, ◌+◌, ◌-◌, ◌<◌, ◌≤◌, Bool, true, false, not, ◌&&◌, ◌||◌, ltb, ◌⊎◌, List, Some, None, Ok, Err, Option, Result, sym, refl, ap, ◌∙◌, subst, inl, inr, ⊎_elim, arith}
+use Rattle.std.proofs.Common.{◌≡◌, ℕ, zero, suc, ◌+◌, ◌-◌, ◌*◌, ◌^◌, ◌<◌, ◌≤◌, min, Bool, true, false, not, ◌&&◌, ◌||◌, ltb, ◌⊎◌, List, [], ◌∷◌, ◌++◌, Some, None, Ok, Err, Option, Result, sym, refl, ap, ◌∙◌, subst, inl, inr, ⊎_elim, arith}
+use Rattle.std.proofs.lemmas.List.{append_assoc}
 use Rattle.std.proofs.lemmas.Bool.{cases_eq, cases_lt, cases_Bool, both_ways, ltb-true, ltb-false}
 use Rattle.clause.specs.declared.words.Clause.{Clause}
 use Rattle.clause.specs.Words.{at}
-use Rattle.clause.specs.Clauses.{Literals, lit}
+use Rattle.clause.specs.Clauses.{Literals, lits, lit, makes, top}
 use Rattle.clause.specs.Refusals.{Told, refused}
 use Rattle.clause.proofs.Truths.{makes_not, above_top}
-use Rattle.store.specs.Held.{Held, Pick, size, entry_at, least_from, number_of}
+use Rattle.store.specs.Held.{Held, Pick, size, clause_at, entry_at, least_from, number_of, least_false}
 use Rattle.store.proofs.Leasts.{Law, First, least_law}
-use Rattle.search.specs.declared.report.Step.{Step}
-use Rattle.search.specs.declared.report.Step.TheVariants.{Setting, Derivation}
-use Rattle.search.specs.declared.report.Tally.{Tally}
-use Rattle.search.specs.declared.search.Search.{Search}
-use Rattle.search.specs.declared.search.Phase.{Phase}
-use Rattle.search.specs.declared.search.Phase.TheVariants.{Unopened, Undecided, Satisfied, Refuted}
-use Rattle.search.specs.Reports.{satisfiable, stopped, Ended, counted, more, none_made}
-use Rattle.search.specs.Searching.{satisfied}
-use Rattle.session.specs.Steps.{After, ended, looks, goes_on, stepping, step_at, runs}
-use Rattle.session.specs.Calls.{allowed, run_in, show_in}
+use Rattle.session.specs.declared.report.Step.{Step}
+use Rattle.session.specs.declared.report.Step.TheVariants.{Setting, Derivation}
+use Rattle.session.specs.declared.report.Tally.{Tally}
+use Rattle.session.specs.declared.search.Search.{Search}
+use Rattle.session.specs.declared.search.Phase.{Phase}
+use Rattle.session.specs.declared.search.Phase.TheVariants.{Unopened, Undecided, Satisfied, Refuted}
+use Rattle.session.specs.Reports.{Said, satisfiable, unsatisfiable, stopped, Ended, counted, more, none_made}
+use Rattle.session.specs.Searching.{satisfied}
+use Rattle.session.specs.Steps.{After, after, ended, looks, goes_on, stepping, step_at, runs}
+use Rattle.session.specs.Calls.{allowed, run_in, run, show_in, shown}
 use Rattle.search_law.proofs.Counts.{exact}
 use Rattle.search_law.proofs.Entries.{first_top}
 use Rattle.search_law.proofs.Growth.{uncut, relabel}
 use Rattle.search_law.proofs.Least.{parts}
 use Rattle.search_law.proofs.Peaks.{peak_atoms}
 use Rattle.search_law.proofs.Resolve.{no_lit}
-use Rattle.search_law.proofs.Steps.{todo, left, Made, Fine, still, onward_on, step_fine}
-use Rattle.search_law.specs.Law.{Inv, Reason, Onward, Right, Ran, RunLaw, ShowLaw, Exact, ample, Says, last_one}
-use Rattle.search_law.specs.Models.{Makes, Models, Least}
+use Rattle.search_law.proofs.Steps.{todo, left, Made, Fine, StepsFine, still, step_fine}
+use Rattle.search_law.specs.Law.{Inv, Reason, Onward, Right, Ending, Ran, RunLaw, ShowLaw, Exact, ample, Says, last_one}
+use Rattle.search_law.specs.Models.{Makes, Models, Lower, Least, peak}
 
 -- a reason of p is false where p is false and all below is as it was
 reason_false : (c : Literals) (v w p : ℕ) → Reason v p c → ((a : ℕ) → a < p → at v a ≡ at w a) → at w p ≡ false → (a : ℕ) → a ≤ 64 → lit w c a ≡ false
@@ -98,6 +99,14 @@ RunAs acc h s t b h' s' (Err e) = ⊥
 
 abbrev Run : List Clause → Held → Search → Tally → ℕ → After (Result Ended Told) → Type 0
 Run acc h s t b a = RunAs acc h s t b a.held a.search a.answer
+
+onward_on : (h : Held) (s : Search) (h₁ : Held) (s₁ : Search) (h₂ : Held) (s₂ : Search) → Onward h s h₁ s₁ → Onward h₁ s₁ h₂ s₂ → Onward h s h₂ s₂
+onward_on h s h₁ s₁ h₂ s₂ x y = record {
+  atoms = y.atoms ∙ x.atoms;
+  places = y.places ∙ x.places;
+  more = x.more ++ y.more;
+  grown = y.grown ∙ ap (λ es. es ++ y.more) x.grown ∙ append_assoc h.entries x.more y.more;
+}
 
 more_next : (m n : ℕ) → m ≤ n → more n ≡ n + 1 → more m ≡ m + 1
 more_next m n l e = omega arith
@@ -175,7 +184,7 @@ module _ (acc : List Clause) (b : ℕ) (ih : (h : Held) (s : Search) (t : Tally)
 module _ (acc : List Clause) (h : Held) (s : Search) (t : Tally) (b : ℕ) (I : Inv acc h s) (go : ℕ → After (Result Ended Told)) where
   sat_end : (ph : Phase) → s.phase ≡ ph → last_one ph ≡ 0 → Models s.valuation h → Run acc h s t b (ended h (satisfied s) satisfiable t)
   sat_end ph e z m = record {
-    keeps = relabel acc h s I (satisfied s) (uncut acc h s I Satisfied s.made.derivations s.given) refl m tt
+    keeps = relabel acc h s I (satisfied s) (uncut acc h s I Satisfied s.made.derivations s.given) refl m
         (let x = I.entries in let y = ap last_one e in omega arith);
     onward = still h s (satisfied s) refl;
     right = (refl, least_model acc h s I m);
@@ -192,7 +201,7 @@ module _ (acc : List Clause) (h : Held) (s : Search) (t : Tally) (b : ℕ) (I : 
   looks_fine (Refuted i j) q o l k = record {
     keeps = I;
     onward = still h s s refl;
-    right = ((i, j, q), subst (Says acc h s.valuation) q I.says);
+    right = subst (Says acc h s.valuation) q I.says;
     unspent = λ _ z. let w : ◌≡◌ {A = ℕ} 0 1 = cc in absurd (omega arith);
     given = refl;
     settings = refl;

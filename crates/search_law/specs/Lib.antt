@@ -1,4 +1,2 @@
 pub mod Models
-pub mod Sources
 pub mod Law
-pub mod Texts

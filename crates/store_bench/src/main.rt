@@ -1,5 +1,7 @@
 // Measures the clause stores beside a plain scan: for each line of input, STORE WORK ARRIVAL RANGE BUILT TIMES, the time that the work took and the sum of its answers.
 // `bench/README.md` says how it is used.
+#![tactic(auto)]
+
 mod measured;
 mod plain;
 mod task;

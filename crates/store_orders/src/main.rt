@@ -1,5 +1,7 @@
 // Puts 16,384 clauses into both clause stores side by side, in four orders of arrival, and compares every answer on the way with the one that is known from
 // the order of arrival.
+#![tactic(auto)]
+
 mod arrivals;
 mod looks;
 

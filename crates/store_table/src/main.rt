@@ -1,4 +1,6 @@
 // Asks both clause stores the requests of one set of tables, and compares each answer with the one that the rules give.
+#![tactic(auto)]
+
 mod ask;
 mod request;
 mod tables;

@@ -8,7 +8,7 @@ use crate::held::count;
 use crate::lines::put_trace;
 use crate::mark::mark;
 use clause::refusal::Refusal;
-use search::search::Phase;
+use session::search::Phase;
 use session::session::Session;
 use store::store::ClauseStore;
 

@@ -1,4 +1,6 @@
 // The trace call: the refutation of an unsatisfiable session as bytes that anybody can check.
+#![tactic(auto)]
+
 pub mod call;
 mod held;
 pub mod laws;

@@ -6,7 +6,7 @@ use Rattle.answer.proofs.print.put_literal.Goals as goal
 pub put-number-requires : goal.put-number-requires
 put-number-requires c =
     let n = c.from.ensures in
-    omega (arith, short c.from.result (omega arith), c.put_mid.ensures.place, c.put_mid.auto.out, c.mark.ensures.bound)
+    omega (arith, short c.from.result (omega arith), c.put-mid.ensures.place, c.put-mid.auto.out, c.mark.ensures.bound)
 
 pub returns : goal.returns
 returns c =
@@ -15,7 +15,7 @@ returns c =
     let size = ap length is in
     let n = c.from.ensures in
     let two = short c.from.result (omega arith) in
-    let s = first c.args.out.now c.args.at (mark_of c.args.value) (c.put_mid.ensures.place ∙ ap (λ l. c.args.at + length l) is) (c.put_mid.ensures.after ∙ ap (wrote c.args.out.now c.args.at) is) (omega (arith, size)) in
+    let s = first c.args.out.now c.args.at (mark_of c.args.value) (c.put-mid.ensures.place ∙ ap (λ l. c.args.at + length l) is) (c.put-mid.ensures.after ∙ ap (wrote c.args.out.now c.args.at) is) (omega (arith, size)) in
     let t = more (decimal c.from.result) s c.put-number.ensures.place c.put-number.ensures.after (omega (arith, s.ends, size)) in
     let text = ap (λ (k : ℕ). mark_of c.args.value ++ decimal k) n in
     record {

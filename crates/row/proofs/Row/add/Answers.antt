@@ -5,9 +5,9 @@ use Rattle.row.proofs.Row.add.Goals as goal
 pub returns-in-New : goal.returns-in-New
 returns-in-New g c =
     let w = whole g.R.Record.key _ _ _ _ _ _ _ _ _ c.used-used.ensures c.room-room.ensures c.add-added.ensures.alters c.add-added.ensures.decides (grown_new _ _ _ _ c.in-New.is) in
-    record { alters = w.alters; size = w.size; places = refl {a = c.args.self.now.places}; beyond = w.beyond; lender = refl {a = c.args.self.now.slots.name}; adds = w.adds; sound = w.sound }
+    record { alters = w.alters; size = w.size; places = refl {a = c.args.self.now.places}; beyond = w.beyond; lender = refl {a = c.args.self.now.slots.ghost_name}; adds = w.adds; sound = w.sound }
 
 pub returns-in-default : goal.returns-in-default
 returns-in-default g c =
     let w = whole g.R.Record.key _ _ _ _ _ _ _ _ _ c.used-used.ensures c.room-room.ensures c.add-added.ensures.alters c.add-added.ensures.decides (grown_rest _ _ _ c.in-default.not-New) in
-    record { alters = w.alters; size = w.size; places = refl {a = c.args.self.now.places}; beyond = w.beyond; lender = refl {a = c.args.self.now.slots.name}; adds = w.adds; sound = w.sound }
+    record { alters = w.alters; size = w.size; places = refl {a = c.args.self.now.places}; beyond = w.beyond; lender = refl {a = c.args.self.now.slots.ghost_name}; adds = w.adds; sound = w.sound }

@@ -5,7 +5,7 @@ use Rattle.session.proofs.session.Session.accept_all.Given as goal
 
 abbrev pub invariant-loop-clause : goal.invariant-loop-clause
 invariant-loop-clause g l =
-    (l.self.store.name ≡ l.initial.self.store.name)
+    (l.self.store.ghost_name ≡ l.initial.self.store.ghost_name)
     × ((m : ℕ) → loads m (g.S.ClauseStore.held l.self.store.now) l.self.search (to_come l.clauses)
     ≡ loads m (g.S.ClauseStore.held l.initial.self.store.now) l.initial.self.search (to_come l.initial.clauses))
 

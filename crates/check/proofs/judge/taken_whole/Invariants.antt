@@ -1,9 +1,0 @@
-use Rattle.std.proofs.Common.{◌≡◌}
-use Rattle.check.proofs.Outcomes.{left}
-use Rattle.check.proofs.judge.taken_whole.Given as goal
-
-abbrev pub invariant-loop-check : goal.invariant-loop-check
-invariant-loop-check l = l.check.trace.now ≡ l.trace
-
-abbrev pub decreases-loop-check : goal.decreases-loop-check
-decreases-loop-check l = left l.check.last l.check.taken l.check.fault

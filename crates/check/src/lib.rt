@@ -1,5 +1,0 @@
-// Checks of a trace: an open check takes lines one by one, a closed check is only questioned.
-pub mod check;
-mod fault;
-pub mod judge;
-mod trailer;

@@ -1,5 +1,0 @@
-// The lines of one session: its requests performed in order, and what is printed of each.
-pub mod attend;
-pub mod literals;
-pub mod log;
-pub mod traces;

@@ -1,3 +1,0 @@
-// What a session keeps beside its store: valuation, reasons, phase and counts, and how they change.
-pub mod report;
-pub mod search;

@@ -1,0 +1,10 @@
+use Rattle.std.proofs.Common.{◌≡◌, ℕ, ◌-◌, ◌*◌, ◌%◌, ◌^◌, sym, ap, ◌∙◌, arith, rules}
+use lib.Bits.{bit_or}
+use Rattle.clause.proofs.Bits.{one_some}
+use Rattle.clause.specs.Words.{with_atom, one}
+use Rattle.session.specs.Searching.{setting}
+use Rattle.session.proofs.search.Search.set.Goals as goal
+
+pub returns : goal.returns
+unfolding setting with_atom
+returns c = let e = one_some c.args.atom (omega arith) (omega arith) in simp e (search rules)
