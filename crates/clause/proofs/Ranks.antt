@@ -1,10 +1,10 @@
 -- The number of a clause in base 4 tells its place in the order, and the clause.
-use Rattle.std.proofs.Common.{◌≡◌, ℕ, zero, suc, ◌+◌, ◌-◌, ◌*◌, ◌^◌, ◌<◌, ◌≤◌, Bool, true, false, cond, not, ◌&&◌, ◌||◌, ◌⊎◌, Ordering, Less, Equal, Greater, sym, refl, ap, ◌∙◌, ap₂, inl, inr, ⊎_elim, mul-le-mul_right, mul_comm, add-mul, pow-suc, arith}
+use Rattle.std.proofs.Common.{◌≡◌, ℕ, zero, suc, ◌+◌, ◌-◌, ◌*◌, ◌^◌, ◌<◌, ◌≤◌, Bool, true, false, cond, not, ◌&&◌, ◌||◌, Ordering, Less, Equal, Greater, sym, refl, ap, ◌∙◌, ap₂, ⊎_elim, mul-le-mul_right, add-mul, pow-suc, arith}
 use lib.Bits.{bit_or, bit_xor}
 use lib.Count.{count_leading_zeros}
-use Rattle.std.proofs.lemmas.Bool.{cases_eq, cases_lt, cases_order, cases_Bool, both_ways}
+use Rattle.std.proofs.lemmas.Bool.{cases_eq, cases_order, cases_Bool}
 use Rattle.clause.specs.Words.{at}
-use Rattle.clause.specs.Clauses.{Literals, has, top, top_to}
+use Rattle.clause.specs.Clauses.{Literals, has, top_to}
 use Rattle.clause.specs.Order.{treats, rank, rank_to, Before, Alike, Decided, Compares}
 use Rattle.clause.proofs.Truths.{top_bound}
 use Rattle.clause.proofs.Bits.{at_or, at_xor, at_zero, at_none, same_words, Highest, highest_of, highest_none}

@@ -2,7 +2,7 @@
 use Rattle.std.proofs.Common.{◌≡◌, ℕ, zero, suc, ◌+◌, ◌<◌, ◌≤◌, min, Bool, true, false, cond, ◌||◌, eqb, ltb, List, [], ◌∷◌, length, get_or, drop, ℤ, pos, negsuc, nat_abs, IfOk, Some, None, Ok, Err, Option, Result, sym, refl, ap, ◌∙◌, arith}
 use Rattle.std.proofs.lemmas.Bool.{or_parts, eqb-false}
 use Rattle.clause.specs.Words.{at, with_atom}
-use Rattle.clause.specs.Clauses.{Literals, lits, clause_of}
+use Rattle.clause.specs.Clauses.{Literals, lits}
 use Rattle.clause.specs.declared.refusal.Refusal.{Refusal}
 use Rattle.clause.proofs.Bits.{at_with, at_zero}
 use Rattle.clause.proofs.Truths.{clause_words}

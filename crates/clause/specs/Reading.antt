@@ -1,8 +1,8 @@
 -- Literals read into a clause.
-use Rattle.std.specs.Prelude.{◌≡◌, ℕ, zero, suc, ◌+◌, ◌<◌, min, Bool, true, false, cond, ◌||◌, List, [], ◌∷◌, ℤ, pos, negsuc, Some, None, Ok, Err, Option, Result, ◌==◌, nat_lt, unsigned_abs, refl}
+use Rattle.std.specs.Prelude.{◌≡◌, ℕ, suc, ◌+◌, ◌<◌, min, Bool, false, cond, ◌||◌, List, [], ◌∷◌, ℤ, pos, negsuc, Some, None, Ok, Err, Option, Result, ◌==◌, nat_lt, unsigned_abs, refl}
 use Rattle.clause.specs.Words.{at, with_atom}
 use Rattle.clause.specs.declared.words.Clause.{Clause}
-use Rattle.clause.specs.Clauses.{Literals, lits, clause_of}
+use Rattle.clause.specs.Clauses.{Literals, clause_of}
 use Rattle.clause.specs.Refusals.{Told, refused}
 
 -- the empty clause

@@ -1,5 +1,5 @@
 -- What each refusal says: its number, its place and its layer.
-use Rattle.std.specs.Prelude.{ℕ, zero, suc, ◌≤◌, Bool, true, false, cond, ◌&&◌, Ok, Err, Result, ◌==◌, nat_le}
+use Rattle.std.specs.Prelude.{ℕ, cond, ◌&&◌, Ok, Err, Result, ◌==◌, nat_le}
 use Rattle.clause.specs.declared.refusal.Refusal.{Refusal}
 use Rattle.clause.specs.declared.refusal.Refusal.TheVariants.{AtomCount, NoPlaces, StoreHoldsEntry, TooLarge, MalformedWord, OutOfRange, BothSigns, NoLiteral, ClauseCount, NoPlaceFree, NoVerdict, TooShort, DerivedBothSigns, BudgetUsedUp, WrongTrailer, WrongLine, ClosedEarly, BadName, NoNamePlace}
 

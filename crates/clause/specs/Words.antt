@@ -1,5 +1,5 @@
 -- Sets of atoms as words: atom a, from 1, is worth 2 ^ (a - 1).
-use Rattle.std.specs.Prelude.{ℕ, zero, suc, ◌+◌, ◌-◌, ◌*◌, ◌/◌, ◌%◌, ◌^◌, ◌<◌, ◌≤◌, Bool, true, false, ◌==◌, bit_and, bit_or, bit_xor}
+use Rattle.std.specs.Prelude.{ℕ, zero, suc, ◌/◌, ◌%◌, ◌^◌, Bool, false, ◌==◌, bit_and, bit_or, bit_xor}
 
 -- atom a stands in the word w
 unfoldable pub at : ℕ → ℕ → Bool

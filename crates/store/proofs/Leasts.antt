@@ -1,11 +1,11 @@
 -- Which false clause is the first in clause order.
-use Rattle.std.proofs.Common.{◌≡◌, ℕ, zero, suc, ◌+◌, ◌<◌, ◌≤◌, Bool, true, false, cond, ltb, ◌⊎◌, List, [], ◌∷◌, ◌++◌, length, Some, None, Option, sym, refl, ap, ◌∙◌, inl, inr, ⊎_elim, arith}
-use Rattle.std.proofs.lemmas.Bool.{both_ways, cases_Bool, cases_eq, cond_both, lt-ltb, le-ltb, ltb-true, ltb-false}
+use Rattle.std.proofs.Common.{◌≡◌, ℕ, zero, suc, ◌+◌, ◌<◌, ◌≤◌, true, false, ltb, List, [], ◌∷◌, length, Some, None, Option, refl, ap, ⊎_elim, arith}
+use Rattle.std.proofs.lemmas.Bool.{both_ways, cases_eq, cond_both, ltb-true, ltb-false}
 use Rattle.clause.specs.declared.words.Clause.{Clause}
 use Rattle.clause.specs.Clauses.{lits, makes}
 use Rattle.clause.specs.Order.{rank}
 use Rattle.store.specs.declared.entry.Entry.{Entry}
-use Rattle.store.specs.Held.{Pick, clause_at, least_from, earlier, number_of, Held, least_false}
+use Rattle.store.specs.Held.{Pick, clause_at, least_from, earlier, number_of}
 
 abbrev pub rank_at : List Entry → ℕ → ℕ
 rank_at es j = rank (lits (clause_at es j))

@@ -1,19 +1,18 @@
 -- What the meaning of a store says of its answers.
-use Rattle.std.proofs.Common.{◌≡◌, ℕ, zero, suc, ◌+◌, ◌<◌, ◌≤◌, Bool, true, false, cond, ◌&&◌, eqb, ◌⊎◌, List, [], ◌∷◌, ◌++◌, length, get_or, Some, None, Option, sym, refl, ap, ◌∙◌, subst, inl, inr, ⊎_elim, arith, length-append, MatchOption}
+use Rattle.std.proofs.Common.{◌≡◌, ℕ, zero, suc, ◌<◌, Bool, true, false, cond, List, [], ◌∷◌, ◌++◌, length, get_or, Some, None, Option, sym, refl, ap, ◌∙◌, subst, ⊎_elim, arith, length-append, MatchOption}
 use lib.ListN.{get_or-append}
-use Rattle.std.proofs.lemmas.Bool.{both_ways, cases_lt, eq-eqb, and_from}
+use Rattle.std.proofs.lemmas.Bool.{cases_lt, eq-eqb, and_from}
 use Rattle.std.proofs.lemmas.List.{get_or_push}
 use Rattle.std.proofs.lemmas.Option.{slice_get-get_or, slice_get_past as nth_past}
-use Rattle.std.specs.List.{slice_get}
 use Rattle.clause.specs.declared.words.Clause.{Clause}
 use Rattle.clause.specs.Clauses.{lits, makes, same}
-use Rattle.clause.specs.Order.{Before, rank}
+use Rattle.clause.specs.Order.{Before}
 use Rattle.clause.proofs.Ranks.{rank_before}
 use Rattle.store.specs.declared.entry.Entry.{Entry}
-use Rattle.store.specs.Held.{Held, Pick, blank, clause_at, entry_at, found, find_from, least_false, least_from, number_of, after_put, after_put_at, pushed, full}
+use Rattle.store.specs.Held.{Held, Pick, blank, clause_at, entry_at, found, least_from, number_of, after_put_at, pushed, full}
 use Rattle.store.specs.Laws.{AllTrue, FirstFalse, LeastFalseLaw, Lacks, Holds, FindLaw, PutLaw}
-use Rattle.store.proofs.Finds.{none_found, some_found, Stands}
-use Rattle.store.proofs.Leasts.{Law, First, least_law}
+use Rattle.store.proofs.Finds.{none_found, some_found}
+use Rattle.store.proofs.Leasts.{Law, least_law}
 
 -- an entry by its number, as an element of the list
 pub record Seen (es : List Entry) (k : ℕ) (e : Entry) : Type 0 where

@@ -10,4 +10,4 @@ loop-low-preserved-in-Less g c =
 pub loop-low-preserved : goal.loop-low-preserved
 loop-low-preserved g c =
     let i = c.loop-low.invariant in
-    (omega arith, omega arith, λ up. ((i.2 up).0, over_read g.R.Record.key _ c.args.size _ _ _ up (omega arith) c.requires c.index-slots-mid.is (not_less _ _ _ c.order.ensures c.in-default.not-Less)))
+    (omega arith, omega arith, λ up. ((i.2 up).0, over_read g.R.Record.key _ c.args.size _ _ _ up (omega arith) c.requires c.index-slots-mid.is (not_less _ _ _ c.order.ensures c.in_default.not-Less)))

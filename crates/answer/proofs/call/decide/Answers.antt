@@ -15,8 +15,8 @@ returns-in-Ok c =
     let k = ap meant c.open-session.ensures.store in
     let d = decided c.args.atoms c.args.text.now (meant c.open-session.result.store.now) c.open-session.result.search _ (k ∙ e)
     (c.open-session.ensures.search ∙ ap (opened c.args.atoms) (sym k)) c.in-Ok.ensures.made in
-    let s = shows_as c.args.out.now _ _ c.print-run.result c.print-run.new.out d c.print-run.ensures.place c.print-run.ensures.after in
-    record { place = s.place; after = s.after; bound = c.print-run.ensures.bound }
+    let s = shows_as c.args.out.now _ _ c.print_run.result c.print_run.new.out d c.print_run.ensures.place c.print_run.ensures.after in
+    record { place = s.place; after = s.after; bound = c.print_run.ensures.bound }
 
 pub returns-in-Err : goal.returns-in-Err
 returns-in-Err c =
@@ -24,5 +24,5 @@ returns-in-Err c =
     let k = ap meant c.open-session.ensures.store in
     let d = decided c.args.atoms c.args.text.now (meant c.open-session.result.store.now) c.open-session.result.search _ (k ∙ e)
     (c.open-session.ensures.search ∙ ap (opened c.args.atoms) (sym k)) c.in-Err.ensures.made in
-    let s = shows_as c.args.out.now _ _ c.put-refusal.result c.put-refusal.new.out d c.put-refusal.ensures.place c.put-refusal.ensures.after in
-    record { place = s.place; after = s.after; bound = c.put-refusal.ensures.bound }
+    let s = shows_as c.args.out.now _ _ c.put_refusal.result c.put_refusal.new.out d c.put_refusal.ensures.place c.put_refusal.ensures.after in
+    record { place = s.place; after = s.after; bound = c.put_refusal.ensures.bound }

@@ -15,10 +15,10 @@ loop-i-init c = (omega arith, none c.args.out.now c.args.at (omega arith))
 pub loop-i-preserved : goal.loop-i-preserved
 loop-i-preserved c =
     let k = c.loop-i.i in
-    let said = c.put-literal-end.ensures in
+    let said = c.put_literal-end.ensures in
     let next = more (literal_field (k + 1) c.stands.result) c.loop-i.invariant.1 said.place said.after (omega (arith, c.loop-i.invariant.0)) in (
       omega (arith, c.loop-i.invariant.0, said.bound),
-      subst (λ (t : List ℕ). Stands c.args.out.now c.args.at t c.put-literal-end.new.out c.put-literal-end.result)
+      subst (λ (t : List ℕ). Stands c.args.out.now c.args.at t c.put_literal-end.new.out c.put_literal-end.result)
           (literals_more k c.args.valuation c.stands.result c.stands.ensures) next,
     )
 

@@ -13,6 +13,6 @@ returns c =
     let s = c.args.search.now in
     let o = said c.args.outcome in
     let a = first c.args.out.now 0 (status o) (c.put-a.ensures.place ∙ ap (λ (l : List ℕ). 0 + length l) is) (c.put-a.ensures.after ∙ ap (wrote c.args.out.now 0) is) (omega (arith, size)) in
-    let b = more (valued c.args.atoms s o) a c.put-valued-b.ensures.place c.put-valued-b.ensures.after (omega (arith, a.ends, size, c.put-valued-b.ensures.bound, c.put-valued-b.ensures.place)) in
-    let d = more (counted s c.args.size c.args.places) b c.put-search.ensures.place c.put-search.ensures.after (omega (arith, c.put-search.ensures.bound, c.put-search.ensures.place, c.put-valued-b.ensures.bound, a.ends, size)) in
-    record { place = d.ends ∙ zero-add _; after = d.is; bound = omega (arith, c.put-search.ensures.bound, c.put-valued-b.ensures.bound, a.ends, size) }
+    let b = more (valued c.args.atoms s o) a c.put_valued-b.ensures.place c.put_valued-b.ensures.after (omega (arith, a.ends, size, c.put_valued-b.ensures.bound, c.put_valued-b.ensures.place)) in
+    let d = more (counted s c.args.size c.args.places) b c.put_search.ensures.place c.put_search.ensures.after (omega (arith, c.put_search.ensures.bound, c.put_search.ensures.place, c.put_valued-b.ensures.bound, a.ends, size)) in
+    record { place = d.ends ∙ zero-add _; after = d.is; bound = omega (arith, c.put_search.ensures.bound, c.put_valued-b.ensures.bound, a.ends, size) }

@@ -11,4 +11,4 @@ returns-then-atom-eq0 c =
     ]
 
 pub returns : goal.returns
-returns c = c.is-set.ensures ∙ at_read c.args.word c.args.atom (omega arith)
+returns c = c.is_set.ensures ∙ at_read c.args.word c.args.atom (omega arith)

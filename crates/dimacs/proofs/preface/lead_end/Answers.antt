@@ -8,8 +8,8 @@ use Rattle.dimacs.proofs.preface.lead_end.Goals as goal
 
 pub returns : goal.returns
 returns c =
-    let e : c.passed-over.result ≡ passed_over (drop c.args.at c.args.text.now) = c.passed-over.ensures ∙ ap passed_over (take_rest c.args.text.now c.args.at) in
+    let e : c.passed_over.result ≡ passed_over (drop c.args.at c.args.text.now) = c.passed_over.ensures ∙ ap passed_over (take_rest c.args.text.now c.args.at) in
     record {
-      value = c.run-end.ensures.value ∙ ap (λ (k : Class). c.args.at + prefix_len (holds k) (drop c.args.at c.args.text.now)) e;
-      within = c.run-end.ensures.within;
+      value = c.run_end.ensures.value ∙ ap (λ (k : Class). c.args.at + prefix_len (holds k) (drop c.args.at c.args.text.now)) e;
+      within = c.run_end.ensures.within;
     }

@@ -9,6 +9,6 @@ pub returns : goal.returns
 returns c =
     let bs = c.args.trace.now in
     let k = c.args.k in
-    let r = sym c.if-not-has-line.ensures in
+    let r = sym c.if-not-has_line.ensures in
     let l = leb-true 1 k (and_parts (leb 1 k) _ r).0 in
     ap (λ (x : Line). Some x) (c.line.ensures ∙ line_part bs k l) ∙ sym (cond-true {A = Option Line} (reaches bs k) (Some (line_at bs k)) None r)

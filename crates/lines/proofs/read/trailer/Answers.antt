@@ -15,7 +15,7 @@ returns c =
     let whole = take_rest bs (length bs - 24) in
     record {
       long = c.if-trace-lt24.false;
-      marked = ap (λ (x : List ℕ). take 4 x) (sym whole) ∙ c.is_marked.ensures.0 c.if-not-is-marked.false;
+      marked = ap (λ (x : List ℕ). take 4 x) (sym whole) ∙ c.is_marked.ensures.0 c.if-not-is_marked.false;
       numbers = ap trailer_of (sym whole) ∙ sym c.numbers.ensures;
       closed = ap (λ (x : List ℕ). number_at x 20 4) (sym whole) ∙ sym c.half.ensures ∙ c.if-half-ne0.false;
     }

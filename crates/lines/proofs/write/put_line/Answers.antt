@@ -10,9 +10,9 @@ returns c =
     let bs = c.args.out.now in
     let k = c.args.k in
     let l = c.args.line in
-    let r : reaches bs k ≡ true = sym c.if-not-has-line.ensures in
+    let r : reaches bs k ≡ true = sym c.if-not-has_line.ensures in
     let p = and_parts (leb 1 k) (leb (24 * k) (length bs)) r in
-    let put = c.put-line-at.ensures ∙ ap (λ (o : ℕ). wrote bs o (line_bytes l)) c.start-of.ensures in
+    let put = c.put_line_at.ensures ∙ ap (λ (o : ℕ). wrote bs o (line_bytes l)) c.start_of.ensures in
     let low = leb-true 1 k p.0 in
     let room = leb-true (24 * k) (length bs) p.1 in
     record {

@@ -9,11 +9,11 @@ pub returns : goal.returns
 returns c =
     let bs = c.args.out.now in
     let t = c.args.trailer in
-    let r : has_room bs t.distance ≡ true = sym c.if-not-has-place.ensures in
+    let r : has_room bs t.distance ≡ true = sym c.if-not-has_place.ensures in
     let room : t.distance + 24 ≤ length bs = leb-true (t.distance + 24) (length bs) r in
     let P : List ℕ → Type 0 = λ x. Ends (take (t.distance + 24) x) t in
     record {
       said = ap fitted (sym r);
-      after = c.put-trailer-at.ensures ∙ sym (cond-true (has_room bs t.distance) (wrote bs t.distance (trailer_bytes t)) bs r);
-      back = λ _. subst P (sym c.put-trailer-at.ensures) (trailer_back bs t room (omega arith) (omega arith) (omega arith) (omega arith));
+      after = c.put_trailer_at.ensures ∙ sym (cond-true (has_room bs t.distance) (wrote bs t.distance (trailer_bytes t)) bs r);
+      back = λ _. subst P (sym c.put_trailer_at.ensures) (trailer_back bs t room (omega arith) (omega arith) (omega arith) (omega arith));
     }

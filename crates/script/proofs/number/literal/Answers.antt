@@ -20,10 +20,10 @@ without_minus (b ∷ w) f = ⊎_elim
 
 pub returns-in-Some : goal.returns-in-Some
 returns-in-Some c =
-    let strip = strip_prefix_char 45 c.args.word.now _ c.strip-prefix.ensures.cases (omega arith) in
-    c.with-sign.ensures ∙ ap (option_map (signed true)) c.number.ensures ∙ with_minus _ _ (MatchOption-at_some _ _ _ c.in-Some.is strip)
+    let strip = strip_prefix_char 45 c.args.word.now _ c.strip_prefix.ensures.cases (omega arith) in
+    c.with_sign.ensures ∙ ap (option_map (signed true)) c.number.ensures ∙ with_minus _ _ (MatchOption-at_some _ _ _ c.in-Some.is strip)
 
 pub returns-in-None : goal.returns-in-None
 returns-in-None c =
-    let strip = strip_prefix_char 45 c.args.word.now _ c.strip-prefix.ensures.cases (omega arith) in
-    c.with-sign-in-None.ensures ∙ ap (option_map (signed false)) c.number-in-None.ensures ∙ without_minus _ (MatchOption-at_none _ _ c.in-None.is strip)
+    let strip = strip_prefix_char 45 c.args.word.now _ c.strip_prefix.ensures.cases (omega arith) in
+    c.with_sign-in-None.ensures ∙ ap (option_map (signed false)) c.number-in-None.ensures ∙ without_minus _ (MatchOption-at_none _ _ c.in-None.is strip)

@@ -5,8 +5,8 @@ use Rattle.script.proofs.request.budget.Goals as goal
 pub returns : goal.returns
 returns c = c.number.ensures ∙ alone_one (λ x. x.now) c.args.rest.now _ (search rules)
 
-pub returns-in-default : goal.returns-in-default
-returns-in-default c = alone_none (λ x. x.now) c.args.rest.now (λ e. search rules)
+pub returns-in_default : goal.returns-in_default
+returns-in_default c = alone_none (λ x. x.now) c.args.rest.now (λ e. search rules)
 
-pub returns-in-default·2 : goal.returns-in-default·2
-returns-in-default·2 c = alone_none (λ x. x.now) c.args.rest.now (λ e. search rules)
+pub returns-in_default·2 : goal.returns-in_default·2
+returns-in_default·2 c = alone_none (λ x. x.now) c.args.rest.now (λ e. search rules)

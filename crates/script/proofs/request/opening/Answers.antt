@@ -6,8 +6,8 @@ use Rattle.script.specs.Requests.{lends}
 use Rattle.script.proofs.Phrases.{opens_three, opens_none}
 use Rattle.script.proofs.request.opening.Goals as goal
 
-pub returns-in-default : goal.returns-in-default
-returns-in-default c = opens_none (λ x. x.now) c.args.rest.now (λ e. search rules)
+pub returns-in_default : goal.returns-in_default
+returns-in_default c = opens_none (λ x. x.now) c.args.rest.now (λ e. search rules)
 
 pub returns-then-ne : goal.returns-then-ne
 returns-then-ne c =

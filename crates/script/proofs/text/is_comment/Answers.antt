@@ -7,5 +7,5 @@ no_byte : (bs : List ℕ) → length bs ≡ 0 → false ≡ comment bs
 no_byte [] e = refl
 no_byte (b ∷ bs) e = absurd (omega arith)
 
-pub returns-then-is-empty : goal.returns-then-is-empty
-returns-then-is-empty c = no_byte c.args.line.now (sym c.as-bytes-bytes.ensures.len ∙ eqb-true _ 0 (sym c.is-empty.ensures ∙ c.if-is-empty.true))
+pub returns-then-is_empty : goal.returns-then-is_empty
+returns-then-is_empty c = no_byte c.args.line.now (sym c.as_bytes-bytes.ensures.len ∙ eqb-true _ 0 (sym c.is_empty.ensures ∙ c.if-is_empty.true))

@@ -11,15 +11,15 @@ loop-line-init c =
     let split = c.split-line-items.ensures in
     none_yet c.args.script.now _ c.into-iter-line-iterator.result c.new-lines.ensures.items (ap split_pattern is ∙ split.pattern) (ap split_text is ∙ split.text) (ap split_has_more is ∙ split.Has-more)
 
-pub loop-line-preserved-in-default : goal.loop-line-preserved-in-default
-loop-line-preserved-in-default c =
-    skipped _ _ _ _ c.loop-line.line-iterator c.next.new.self c.loop-line.invariant c.saturating-add-number.ensures c.in-Some.line c.in-Some.ensures.steps
-    (sym (ap (option_map line_as) c.in-default.is) ∙ c.in-ok-read.ensures)
+pub loop-line-preserved-in_default : goal.loop-line-preserved-in_default
+loop-line-preserved-in_default c =
+    skipped _ _ _ _ c.loop-line.line-iterator c.next.new.self c.loop-line.invariant c.saturating_add-number.ensures c.in-Some.line c.in-Some.ensures.steps
+    (sym (ap (option_map line_as) c.in_default.is) ∙ c.in_ok-read.ensures)
 
 pub loop-line-preserved : goal.loop-line-preserved
 loop-line-preserved c =
-    taken _ _ _ _ c.loop-line.line-iterator c.next.new.self c.loop-line.invariant c.saturating-add-number.ensures c.in-Some.line c.in-Some-2.read _ c.in-Some.ensures.steps
-    (sym (ap (option_map line_as) c.in-Some-2.is) ∙ c.in-ok-read.ensures) c.in-ok-push.ensures.items
+    taken _ _ _ _ c.loop-line.line-iterator c.next.new.self c.loop-line.invariant c.saturating_add-number.ensures c.in-Some.line c.in-Some-2.read _ c.in-Some.ensures.steps
+    (sym (ap (option_map line_as) c.in-Some-2.is) ∙ c.in_ok-read.ensures) c.in_ok-push.ensures.items
 
 pub returns : goal.returns
 returns c = no_more _ _ _ c.loop-line.line-iterator c.next.new.self c.loop-line.invariant c.in-None.ensures.steps

@@ -22,10 +22,10 @@ no_end (b ∷ x ∷ bs) n = ap (λ l. b ∷ l) (no_end (x ∷ bs) (λ front e. n
 
 pub returns-in-Some : goal.returns-in-Some
 returns-in-Some c =
-    let strip = strip_suffix_char 13 c.args.line.now _ c.strip-suffix.ensures.cases (omega arith) in
+    let strip = strip_suffix_char 13 c.args.line.now _ c.strip_suffix.ensures.cases (omega arith) in
     cut_end _ ∙ sym (ap trimmed (MatchOption-at_some _ _ _ c.in-Some.is strip))
 
 pub returns-in-None : goal.returns-in-None
 returns-in-None c =
-    let strip = strip_suffix_char 13 c.args.line.now _ c.strip-suffix.ensures.cases (omega arith) in
+    let strip = strip_suffix_char 13 c.args.line.now _ c.strip_suffix.ensures.cases (omega arith) in
     no_end _ (MatchOption-at_none _ _ c.in-None.is strip)

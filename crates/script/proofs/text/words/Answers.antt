@@ -10,13 +10,13 @@ loop-piece-init c =
     let split = c.split-piece-items.ensures in
     none_yet c.args.line.now _ c.into-iter-piece-iterator.result c.new-words.ensures.items (ap split_pattern is ∙ split.pattern) (ap split_text is ∙ split.text) (ap split_has_more is ∙ split.Has-more)
 
-pub loop-piece-preserved-then-is-empty : goal.loop-piece-preserved-then-is-empty
-loop-piece-preserved-then-is-empty c =
-    skipped _ _ c.loop-piece.piece-iterator c.next.new.self c.loop-piece.invariant c.in-Some.piece c.in-Some.ensures.steps (eqb-true _ 0 (sym c.is-empty.ensures ∙ c.if-is-empty.true))
+pub loop-piece-preserved-then-is_empty : goal.loop-piece-preserved-then-is_empty
+loop-piece-preserved-then-is_empty c =
+    skipped _ _ c.loop-piece.piece-iterator c.next.new.self c.loop-piece.invariant c.in-Some.piece c.in-Some.ensures.steps (eqb-true _ 0 (sym c.is_empty.ensures ∙ c.if-is_empty.true))
 
 pub loop-piece-preserved : goal.loop-piece-preserved
 loop-piece-preserved c =
-    taken _ _ c.loop-piece.piece-iterator c.next.new.self c.loop-piece.invariant c.in-Some.piece _ c.in-Some.ensures.steps (eqb-false _ 0 (sym c.is-empty.ensures ∙ c.if-is-empty.false)) c.in-ok-push.ensures.items
+    taken _ _ c.loop-piece.piece-iterator c.next.new.self c.loop-piece.invariant c.in-Some.piece _ c.in-Some.ensures.steps (eqb-false _ 0 (sym c.is_empty.ensures ∙ c.if-is_empty.false)) c.in_ok-push.ensures.items
 
 pub returns : goal.returns
 returns c = no_more _ _ c.loop-piece.piece-iterator c.next.new.self c.loop-piece.invariant c.in-None.ensures.steps

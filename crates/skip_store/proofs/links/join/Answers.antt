@@ -6,19 +6,19 @@ use Rattle.skip_store.proofs.links.join.Goals as goal
 pub bounds-before-level : goal.bounds-before-level
 bounds-before-level c = omega (arith, trailing_small c.args.k (omega arith) (omega arith))
 
-pub link-of-next-requires : goal.link-of-next-requires
-link-of-next-requires c =
+pub link_of-next-requires : goal.link_of-next-requires
+link_of-next-requires c =
     let v : c.loop-level.level < 15 = omega (arith, trailing_small c.args.k (omega arith) (omega arith)) in
     let e = c.requires.before c.loop-level.level v in
     record { room = omega arith; level = (v, e.1) }
 
-pub set-link-requires : goal.set-link-requires
-set-link-requires c =
+pub set_link-requires : goal.set_link-requires
+set_link-requires c =
     let v : c.loop-level.level < 15 = omega (arith, trailing_small c.args.k (omega arith) (omega arith)) in
     record { room = omega arith; level = (v, on_from_trailing 16 c.args.k c.loop-level.level (omega arith)) }
 
-pub set-link-requires-in-loop-level : goal.set-link-requires-in-loop-level
-set-link-requires-in-loop-level c =
+pub set_link-requires-in-loop-level : goal.set_link-requires-in-loop-level
+set_link-requires-in-loop-level c =
     let v : c.loop-level.level < 15 = omega (arith, trailing_small c.args.k (omega arith) (omega arith)) in
     let e = c.requires.before c.loop-level.level v in
     record { room = omega arith; level = (v, e.1) }
@@ -26,8 +26,8 @@ set-link-requires-in-loop-level c =
 pub loop-level-preserved : goal.loop-level-preserved
 loop-level-preserved c =
     let v : c.loop-level.level < 15 = omega (arith, trailing_small c.args.k (omega arith) (omega arith)) in
-    let s = c.set-link.ensures in
-    let t = c.set-link-in-loop-level.ensures in
+    let s = c.set_link.ensures in
+    let t = c.set_link-in-loop-level.ensures in
     turned _ _ _ _ _ _ c.loop-level.level _ c.loop-level.invariant (omega arith) c.requires.room v
-    (on_from_trailing 16 c.args.k c.loop-level.level (omega arith)) c.requires.before c.link-of-next.ensures
+    (on_from_trailing 16 c.args.k c.loop-level.level (omega arith)) c.requires.before c.link_of-next.ensures
     (λ l b. on_from_trailing 16 c.args.k l (omega arith)) _ _ _ _ s.head s.links t.head t.links

@@ -3,11 +3,11 @@ use Rattle.std.proofs.lemmas.Nat.{pow_pos}
 use Rattle.skip_store.proofs.Levels.{shifted, seat_is}
 use Rattle.skip_store.proofs.links.seat.Goals as goal
 
-pub overflow-sub-result : goal.overflow-sub-result
-overflow-sub-result c = let s = shifted _ _ c.requires.entry c.requires.level.0 c.requires.level.1 in omega arith
+pub overflow_sub-result : goal.overflow_sub-result
+overflow_sub-result c = let s = shifted _ _ c.requires.entry c.requires.level.0 c.requires.level.1 in omega arith
 
-pub overflow-sub-result-2 : goal.overflow-sub-result-2
-overflow-sub-result-2 c = let s = shifted _ _ c.requires.entry c.requires.level.0 c.requires.level.1 in omega arith
+pub overflow_sub-result-2 : goal.overflow_sub-result-2
+overflow_sub-result-2 c = let s = shifted _ _ c.requires.entry c.requires.level.0 c.requires.level.1 in omega arith
 
 pub returns : goal.returns
 returns c =

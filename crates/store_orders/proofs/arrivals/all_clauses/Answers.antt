@@ -20,7 +20,7 @@ loop-j-preserved c =
     let l = c.loop-j.invariant.0 in
     let p = c.push.ensures.by_index in (
       search rules,
-      more _ _ c.loop-j.j c.put-clause.result c.loop-j.invariant.1 (λ k d h. p.0 k d (omega arith))
-          (λ d. subst (λ m. get_or (vec_items c.push.new.self) m d ≡ c.put-clause.result) l (p.1 d (ap is_ok c.in-ok-push.was)))
-          c.put-clause.ensures,
+      more _ _ c.loop-j.j c.put_clause.result c.loop-j.invariant.1 (λ k d h. p.0 k d (omega arith))
+          (λ d. subst (λ m. get_or (vec_items c.push.new.self) m d ≡ c.put_clause.result) l (p.1 d (ap is_ok c.in_ok-push.was)))
+          c.put_clause.ensures,
     )

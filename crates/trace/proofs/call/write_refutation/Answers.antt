@@ -9,7 +9,7 @@ returns g c =
     let es = (g.S.ClauseStore.held c.args.session.now.store.now).entries in
     let same = trace_same c.args.session.now.search.atoms es c.args.first c.args.second c.args.marks.now c.mark.new.marks c.mark.ensures in
     record {
-      bytes = c.put-trace.ensures.bytes ∙ ap (λ (x : List ℕ). over x c.args.buffer.now) same;
+      bytes = c.put_trace.ensures.bytes ∙ ap (λ (x : List ℕ). over x c.args.buffer.now) same;
       marks = c.mark.ensures;
-      count = c.put-trace.ensures.count ∙ ap length same;
+      count = c.put_trace.ensures.count ∙ ap length same;
     }

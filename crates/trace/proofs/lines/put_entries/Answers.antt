@@ -4,7 +4,7 @@ use Rattle.trace.specs.Lines.{chosen}
 use Rattle.trace.proofs.Marking.{mark_test}
 use Rattle.trace.proofs.Writing.{Done, done_none, done_off, done_on, moved}
 use Rattle.trace.proofs.lines.put_entries.Goals as goal
-use Rattle.trace.proofs.lines.put_entries.Goals.{then-is-marked, else-is-marked}
+use Rattle.trace.proofs.lines.put_entries.Goals.{then-is_marked, else-is_marked}
 
 pub loop-i-init : goal.loop-i-init
 loop-i-init g c =
@@ -23,14 +23,14 @@ loop-i-preserved g c =
     let n = c.loop-i.lines in
     let v = c.loop-i.given in
     let b = c.loop-i.buffer in
-    elim c.if-is-marked.branch [
-      | then-is-marked w ↦ moved m es ks o (i + 1) (n + 1) c.if-is-marked.lines (v + w.given-of-given.result) c.if-is-marked.given w.put-line.new.out c.if-is-marked.buffer
+    elim c.if-is_marked.branch [
+      | then-is_marked w ↦ moved m es ks o (i + 1) (n + 1) c.if-is_marked.lines (v + w.given_of-given.result) c.if-is_marked.given w.put_line.new.out c.if-is_marked.buffer
           w.lines-is w.given-is w.buffer-is
-          (done_on m es ks o c.args.table.now i n v w.given-of-given.result b w.put-line.new.out w.held-line.result w.renumber-line.result
-          (mark_test ms i c.is_marked.result true c.is_marked.ensures w.if-is-marked.true) c.requires.1.1 w.held-line.ensures w.renumber-line.ensures
-          (omega (arith, c.loop-i.invariant.few)) w.put-line.ensures.after w.given-of-given.ensures c.loop-i.invariant)
-      | else-is-marked w ↦ moved m es ks o (i + 1) n c.if-is-marked.lines v c.if-is-marked.given b c.if-is-marked.buffer w.lines-is w.given-is w.buffer-is
-          (done_off m es ks o i n v b (mark_test ms i c.is_marked.result false c.is_marked.ensures w.if-is-marked.false) c.loop-i.invariant)
+          (done_on m es ks o c.args.table.now i n v w.given_of-given.result b w.put_line.new.out w.held_line.result w.renumber-line.result
+          (mark_test ms i c.is_marked.result true c.is_marked.ensures w.if-is_marked.true) c.requires.1.1 w.held_line.ensures w.renumber-line.ensures
+          (omega (arith, c.loop-i.invariant.few)) w.put_line.ensures.after w.given_of-given.ensures c.loop-i.invariant)
+      | else-is_marked w ↦ moved m es ks o (i + 1) n c.if-is_marked.lines v c.if-is_marked.given b c.if-is_marked.buffer w.lines-is w.given-is w.buffer-is
+          (done_off m es ks o i n v b (mark_test ms i c.is_marked.result false c.is_marked.ensures w.if-is_marked.false) c.loop-i.invariant)
     ]
 
 pub returns : goal.returns

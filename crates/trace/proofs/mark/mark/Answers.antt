@@ -12,18 +12,18 @@ loop-i-init g c =
     c.clear.ensures.long c.clear.ensures.none c.clear.ensures.rest c.note.ensures c.note-2.ensures in
     (marks_same _ _ p.0.bits, p.1)
 
-pub loop-i-preserved-then-is-marked : goal.loop-i-preserved-then-is-marked
-loop-i-preserved-then-is-marked g c =
+pub loop-i-preserved-then-is_marked : goal.loop-i-preserved-then-is_marked
+loop-i-preserved-then-is_marked g c =
     went_on (g.S.ClauseStore.held c.args.session.now.store.now).entries c.args.first c.args.second c.note-2.new.marks c.loop-i.marks
-    c.note-then-is-marked.new.marks c.note-then-is-marked-2.new.marks c.loop-i.i c.held-line-line.result
-    (omega arith) (omega arith) (omega arith) c.held-line-line.ensures
-    (is_on (get_or c.loop-i.marks (c.loop-i.i - 1) 0) c.is_marked.result c.is_marked.ensures c.if-is-marked.true)
-    c.note-then-is-marked.ensures c.note-then-is-marked-2.ensures c.loop-i.invariant
+    c.note-then-is_marked.new.marks c.note-then-is_marked-2.new.marks c.loop-i.i c.held_line-line.result
+    (omega arith) (omega arith) (omega arith) c.held_line-line.ensures
+    (is_on (get_or c.loop-i.marks (c.loop-i.i - 1) 0) c.is_marked.result c.is_marked.ensures c.if-is_marked.true)
+    c.note-then-is_marked.ensures c.note-then-is_marked-2.ensures c.loop-i.invariant
 
 pub loop-i-preserved : goal.loop-i-preserved
 loop-i-preserved g c =
     passed (g.S.ClauseStore.held c.args.session.now.store.now).entries c.args.first c.args.second c.note-2.new.marks c.loop-i.marks c.loop-i.i
-    (omega arith) (is_off (get_or c.loop-i.marks (c.loop-i.i - 1) 0) c.is_marked.result c.is_marked.ensures c.if-is-marked.false) c.loop-i.invariant
+    (omega arith) (is_off (get_or c.loop-i.marks (c.loop-i.i - 1) 0) c.is_marked.result c.is_marked.ensures c.if-is_marked.false) c.loop-i.invariant
 
 pub returns : goal.returns
 returns g c =

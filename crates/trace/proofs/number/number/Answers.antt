@@ -5,13 +5,13 @@ use Rattle.trace.specs.Tables.{Table}
 use Rattle.trace.proofs.Marking.{mark_test}
 use Rattle.trace.proofs.Numbering.{Numbered, numbered_none, numbered_on, numbered_off}
 use Rattle.trace.proofs.number.number.Goals as goal
-use Rattle.trace.proofs.number.number.Goals.{then-is-marked, else-is-marked}
+use Rattle.trace.proofs.number.number.Goals.{then-is_marked, else-is_marked}
 
 pub loop-i-init : goal.loop-i-init
 loop-i-init c = numbered_none (marked c.args.marks.now) c.args.table.now c.requires.1.1.1
 
-pub overflow-add-lines : goal.overflow-add-lines
-overflow-add-lines c = omega (arith, c.loop-i.invariant.few)
+pub overflow_add-lines : goal.overflow_add-lines
+overflow_add-lines c = omega (arith, c.loop-i.invariant.few)
 
 pub loop-i-preserved : goal.loop-i-preserved
 loop-i-preserved c =
@@ -20,11 +20,11 @@ loop-i-preserved c =
     let n = c.loop-i.lines in
     let P : ℕ → List ℕ → Type 0 = λ k t. Numbered (marked ms) (i + 1) k t in
     let moved : (k k' : ℕ) (t t' : List ℕ) → k' ≡ k → t' ≡ t → P k t → P k' t' = λ k k' t t' a b p. rw (a, b) p in
-    elim c.if-is-marked.branch [
-      | then-is-marked w ↦ moved (n + 1) c.if-is-marked.lines (set c.loop-i.table i (n + 1)) c.if-is-marked.table w.lines-is w.table-is
-          (numbered_on (marked ms) i n c.loop-i.table (omega arith) (mark_test ms i c.is_marked.result true c.is_marked.ensures w.if-is-marked.true) c.loop-i.invariant)
-      | else-is-marked w ↦ moved n c.if-is-marked.lines c.loop-i.table c.if-is-marked.table w.lines-is w.table-is
-          (numbered_off (marked ms) i n c.loop-i.table (mark_test ms i c.is_marked.result false c.is_marked.ensures w.if-is-marked.false) c.loop-i.invariant)
+    elim c.if-is_marked.branch [
+      | then-is_marked w ↦ moved (n + 1) c.if-is_marked.lines (set c.loop-i.table i (n + 1)) c.if-is_marked.table w.lines-is w.table-is
+          (numbered_on (marked ms) i n c.loop-i.table (omega arith) (mark_test ms i c.is_marked.result true c.is_marked.ensures w.if-is_marked.true) c.loop-i.invariant)
+      | else-is_marked w ↦ moved n c.if-is_marked.lines c.loop-i.table c.if-is_marked.table w.lines-is w.table-is
+          (numbered_off (marked ms) i n c.loop-i.table (mark_test ms i c.is_marked.result false c.is_marked.ensures w.if-is_marked.false) c.loop-i.invariant)
     ]
 
 pub returns : goal.returns

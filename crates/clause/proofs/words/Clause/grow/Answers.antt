@@ -23,10 +23,10 @@ signed l b f e = ap (λ (z : ℤ). lt_z z (pos 0)) (sym (to_z-of_z f)) ∙ e
 
 pub returns-then-literal-lt0 : goal.returns-then-literal-lt0
 returns-then-literal-lt0 c =
-    c.of-words.ensures.value
-    ∙ negative c.args.self.now c.args.literal c.args.atom _ c.word-of-word.ensures (signed _ _ c.ranges.literal c.if-literal-lt0.true)
+    c.of_words.ensures.value
+    ∙ negative c.args.self.now c.args.literal c.args.atom _ c.word_of-word.ensures (signed _ _ c.ranges.literal c.if-literal-lt0.true)
 
 pub returns-else-literal-lt0 : goal.returns-else-literal-lt0
 returns-else-literal-lt0 c =
-    c.of-words-else-literal-lt0.ensures.value
-    ∙ positive c.args.self.now c.args.literal c.args.atom _ c.word-of-word.ensures (signed _ _ c.ranges.literal c.if-literal-lt0.false)
+    c.of_words-else-literal-lt0.ensures.value
+    ∙ positive c.args.self.now c.args.literal c.args.atom _ c.word_of-word.ensures (signed _ _ c.ranges.literal c.if-literal-lt0.false)

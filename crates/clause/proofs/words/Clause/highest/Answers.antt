@@ -6,7 +6,7 @@ use Rattle.clause.proofs.words.Clause.highest.Goals as goal
 
 pub returns : goal.returns
 returns c = record {
-  value = c.highest-in.ensures.value ∙ ap (λ (w : ℕ). 64 - count_leading_zeros 64 w) c.atoms.ensures
-      ∙ top_word (lits c.args.self.now) (omega (arith, c.atoms.ensures, c.atoms.type-inv));
-  bound = c.highest-in.ensures.bound;
+  value = c.highest_in.ensures.value ∙ ap (λ (w : ℕ). 64 - count_leading_zeros 64 w) c.atoms.ensures
+      ∙ top_word (lits c.args.self.now) (omega (arith, c.atoms.ensures, c.atoms.type_inv));
+  bound = c.highest_in.ensures.bound;
 }

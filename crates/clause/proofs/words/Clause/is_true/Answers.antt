@@ -5,5 +5,5 @@ use Rattle.clause.proofs.words.Clause.is_true.Goals as goal
 
 pub returns : goal.returns
 returns c =
-    ap (λ (w : ℕ). not (eqb w 0)) c.true-atoms.ensures
-    ∙ makes_word c.args.valuation (lits c.args.self.now) (omega (arith, c.true-atoms.ensures, c.true-atoms.type-inv))
+    ap (λ (w : ℕ). not (eqb w 0)) c.true_atoms.ensures
+    ∙ makes_word c.args.valuation (lits c.args.self.now) (omega (arith, c.true_atoms.ensures, c.true_atoms.type_inv))

@@ -1,4 +1,4 @@
-use Rattle.std.proofs.Common.{◌≡◌, get_or, ℤ, pos, Ok, sym, ap, ◌∙◌, arith, to_z-of_z, w32, SFits, to_z, of_z, rules}
+use Rattle.std.proofs.Common.{get_or, pos, Ok, sym, ap, ◌∙◌, arith, to_z-of_z, w32, SFits, rules}
 use Rattle.clause.specs.declared.words.Clause.{Clause}
 use Rattle.clause.specs.Reading.{reads, clear}
 use Rattle.clause.proofs.Truths.{same_literals}
@@ -8,11 +8,11 @@ use Rattle.clause.proofs.words.Clause.of_literals.Goals as goal
 pub loop-i-init : goal.loop-i-init
 loop-i-init c = ap (λ (d : Clause). reads c.args.atoms 0 d c.args.literals.now) (same_literals c.empty-clause.result clear c.empty-clause.ensures)
 
-pub returns-then-is-outside : goal.returns-then-is-outside
-returns-then-is-outside c =
+pub returns-then-is_outside : goal.returns-then-is_outside
+returns-then-is_outside c =
     let f : SFits w32 (get_or c.args.literals.now c.loop-i.i (pos 0)) = search rules in
     record {
-      value = reads_out c.args.atoms c.loop-i.i c.loop-i.clause c.args.literals.now _ (omega arith) (to_z-of_z f) _ c.unsigned-abs-atom.ensures.value (sym c.is-outside.ensures ∙ c.if-is-outside.true)
+      value = reads_out c.args.atoms c.loop-i.i c.loop-i.clause c.args.literals.now _ (omega arith) (to_z-of_z f) _ c.unsigned_abs-atom.ensures.value (sym c.is_outside.ensures ∙ c.if-is_outside.true)
           ∙ c.loop-i.invariant;
       atoms = tt;
     }
@@ -21,7 +21,7 @@ pub returns-in-None : goal.returns-in-None
 returns-in-None c =
     let f : SFits w32 (get_or c.args.literals.now c.loop-i.i (pos 0)) = search rules in
     record {
-      value = reads_both c.args.atoms c.loop-i.i c.loop-i.clause c.args.literals.now _ (omega arith) (to_z-of_z f) _ c.unsigned-abs-atom.ensures.value (sym c.is-outside.ensures ∙ c.if-is-outside.false)
+      value = reads_both c.args.atoms c.loop-i.i c.loop-i.clause c.args.literals.now _ (omega arith) (to_z-of_z f) _ c.unsigned_abs-atom.ensures.value (sym c.is_outside.ensures ∙ c.if-is_outside.false)
           (sym c.grow.ensures ∙ c.in-None.is)
           ∙ c.loop-i.invariant;
       atoms = tt;
@@ -30,7 +30,7 @@ returns-in-None c =
 pub loop-i-preserved : goal.loop-i-preserved
 loop-i-preserved c =
     let f : SFits w32 (get_or c.args.literals.now c.loop-i.i (pos 0)) = search rules in
-    reads_next c.args.atoms c.loop-i.i c.loop-i.clause c.args.literals.now _ (omega arith) (to_z-of_z f) _ c.in-Some.grown c.unsigned-abs-atom.ensures.value (sym c.is-outside.ensures ∙ c.if-is-outside.false)
+    reads_next c.args.atoms c.loop-i.i c.loop-i.clause c.args.literals.now _ (omega arith) (to_z-of_z f) _ c.in-Some.grown c.unsigned_abs-atom.ensures.value (sym c.is_outside.ensures ∙ c.if-is_outside.false)
     (sym c.grow.ensures ∙ c.in-Some.is)
     ∙ c.loop-i.invariant
 

@@ -18,14 +18,14 @@ none : (p n : ℕ) (b : Bool) (f : T b → bit_and p n ≡ 0) → b ≡ false �
 none p n true f e = cc
 none p n false f e = refl
 
-pub returns-then-are-apart : goal.returns-then-are-apart
+pub returns-then-are_apart : goal.returns-then-are_apart
 unfolding clause_of
-returns-then-are-apart c = record { value = made _ _ _ _ _ (sym c.are-apart.ensures ∙ c.if-are-apart.true); atoms = refl }
+returns-then-are_apart c = record { value = made _ _ _ _ _ (sym c.are_apart.ensures ∙ c.if-are_apart.true); atoms = refl }
 
-pub returns-else-are-apart : goal.returns-else-are-apart
+pub returns-else-are_apart : goal.returns-else-are_apart
 unfolding clause_of
-returns-else-are-apart c =
-    let e = sym c.are-apart.ensures ∙ c.if-are-apart.false in
+returns-else-are_apart c =
+    let e = sym c.are_apart.ensures ∙ c.if-are_apart.false in
     record {
       value = none _ _ _ _ e;
       atoms = shares_word c.args.positive c.args.negative (omega arith) (eqb-false _ _ e);

@@ -1,4 +1,4 @@
-use Rattle.std.proofs.Common.{◌≡◌, ℕ, true, Some, None, Option, sym, ap, ◌∙◌, subst, MatchOption}
+use Rattle.std.proofs.Common.{◌≡◌, ℕ, Some, None, Option, sym, ap, ◌∙◌, subst, MatchOption}
 use lib.Bits.{bit_and, bit_or, bit_xor}
 use Rattle.clause.specs.declared.words.Clause.{Clause}
 use Rattle.clause.specs.Clauses.{Literals, clause_of, joined, lits, top, Shares, Clashes, Resolves}
@@ -23,9 +23,9 @@ pub returns : goal.returns
 returns c =
     let r = lits c.args.self.now in
     let d = lits c.args.other.now in
-    let e = joins r d c.highest-p.result (top d) c.take-out.result c.take-out-2.result c.highest-p.ensures.value c.take-out.ensures c.take-out-2.ensures in
+    let e = joins r d c.highest-p.result (top d) c.take_out.result c.take_out-2.result c.highest-p.ensures.value c.take_out.ensures c.take_out-2.ensures in
     record {
-      value = c.of-words.ensures.value ∙ ap clause_of e;
-      atoms = by_atoms r d (top d) c.of-words.result
-          (subst (λ (j : Literals). MatchOption c.of-words.result (Shares j.pos j.neg) (λ x. lits x ≡ j)) e c.of-words.ensures.atoms);
+      value = c.of_words.ensures.value ∙ ap clause_of e;
+      atoms = by_atoms r d (top d) c.of_words.result
+          (subst (λ (j : Literals). MatchOption c.of_words.result (Shares j.pos j.neg) (λ x. lits x ≡ j)) e c.of_words.ensures.atoms);
     }

@@ -1,23 +1,23 @@
 use Rattle.std.proofs.Common.{refl}
 use Rattle.dimacs.proofs.Split.{Next, none_left, one_more}
 use Rattle.dimacs.proofs.reader.Reader.next_word.Goals as goal
-use Rattle.dimacs.proofs.reader.Reader.next_word.Goals.{After-run-end-end}
+use Rattle.dimacs.proofs.reader.Reader.next_word.Goals.{After-run_end-end}
 
-found : (c : After-run-end-end) → Next c.args.self.now.text.now c.args.self.now.at c.run-end-start.result c.run-end-end.result
+found : (c : After-run_end-end) → Next c.args.self.now.text.now c.args.self.now.at c.run_end-start.result c.run_end-end.result
 found c = record {
-  starts = c.run-end-start.ensures.value;
-  ends = c.run-end-end.ensures.value;
-  within = c.run-end-end.ensures.within;
+  starts = c.run_end-start.ensures.value;
+  ends = c.run_end-end.ensures.value;
+  within = c.run_end-end.ensures.within;
 }
 
 pub returns-then-start-end : goal.returns-then-start-end
 returns-then-start-end c = record {
   same = refl;
-  cases = none_left (found (goal.at.returns-then-start-end c).After-run-end-end) c.if-start-end.true;
+  cases = none_left (found (goal.at.returns-then-start-end c).After-run_end-end) c.if-start-end.true;
 }
 
 pub returns : goal.returns
 returns c = record {
   same = refl;
-  cases = one_more (found (goal.at.returns c).After-run-end-end) c.if-start-end.false;
+  cases = one_more (found (goal.at.returns c).After-run_end-end) c.if-start-end.false;
 }

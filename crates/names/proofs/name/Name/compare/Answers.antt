@@ -11,5 +11,5 @@ pub returns : goal.returns
 returns c =
     let s = c.args.self.now in
     let o = c.args.other.now in
-    let h = moved (spelled s) (spelled o) _ _ c.compare-bytes.result c.bytes.ensures.value c.bytes-2.ensures.value (by_bytes _ _ _ c.compare-bytes.ensures) in
-    record { order = h; ranks = by_ranks (spelled s) (spelled o) c.compare-bytes.result s.good o.good h; law = order_law }
+    let h = moved (spelled s) (spelled o) _ _ c.compare_bytes.result c.bytes.ensures.value c.bytes-2.ensures.value (by_bytes _ _ _ c.compare_bytes.ensures) in
+    record { order = h; ranks = by_ranks (spelled s) (spelled o) c.compare_bytes.result s.good o.good h; law = order_law }

@@ -5,14 +5,14 @@ use Rattle.names.specs.Bytes.{is_name}
 use Rattle.names.proofs.Spellings.{front, behind, named}
 use Rattle.names.proofs.name.Name.of.Goals as goal
 
-pub invariant-of-result : goal.invariant-of-result
-invariant-of-result c =
+pub invariant_of-result : goal.invariant_of-result
+invariant_of-result c =
     let w = c.args.word.now in
-    let good = sym c.if-not-is-name.ensures in
+    let good = sym c.if-not-is_name.ensures in
     let n = length w in
     ((named w good).short, (ap is_name (front c.padded.result w n c.padded.ensures refl) ∙ good, (behind c.padded.result w n c.padded.ensures refl, tt)))
 
 pub returns : goal.returns
 returns c =
     let w = c.args.word.now in
-    ap Ok (front c.padded.result w (length w) c.padded.ensures refl) ∙ sym (cond-true (is_name w) (Ok w) (Err (refused 19 0)) (sym c.if-not-is-name.ensures))
+    ap Ok (front c.padded.result w (length w) c.padded.ensures refl) ∙ sym (cond-true (is_name w) (Ok w) (Err (refused 19 0)) (sym c.if-not-is_name.ensures))

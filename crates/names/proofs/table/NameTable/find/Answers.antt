@@ -16,9 +16,9 @@ use Rattle.names.proofs.table.NameTable.find.Goals as goal
 told : (t : NameTable) (w : List ℕ) (r : Option ℕ) → r ≡ atom_of (held t) w → record { value : r ≡ atom_of (held t) w; inverse : Inverse (held t) w r }
 told t w r e = record { value = e; inverse = subst (Inverse (held t) w) (sym e) (inverse_law (held t) (kept _ _ _ (numbered t)) w) }
 
-pub returns-in-default : goal.returns-in-default
-returns-in-default c =
-    told c.args.self.now c.args.word.now None (sym (found_bad _ _ _ (numbered c.args.self.now) c.args.word.now (word_bad c.args.word.now _ c.in-default.ensures).bad))
+pub returns-in_default : goal.returns-in_default
+returns-in_default c =
+    told c.args.self.now c.args.word.now None (sym (found_bad _ _ _ (numbered c.args.self.now) c.args.word.now (word_bad c.args.word.now _ c.in_default.ensures).bad))
 
 pub returns-in-Some : goal.returns-in-Some
 returns-in-Some c =

@@ -8,7 +8,7 @@ returns-in-Some c =
     found_read _ _ _ _ o c.args.clause.now c.sought.result c.records.result.now c.in-Some.i c.index-records-i.result c.number.result
     c.records.ensures (c.in-Some.ensures.finds (sound _ _ _ _ o))
     c.sought.ensures
-    c.index-records-i.is c.number.ensures.value c.number.ensures.words c.words-fit.ensures
+    c.index-records-i.is c.number.ensures.value c.number.ensures.words c.words_fit.ensures
 
 pub returns-in-None : goal.returns-in-None
 returns-in-None c =

@@ -9,13 +9,13 @@ use Rattle.row_store.proofs.ordered.RowStoreClauseStore.put.Goals as goal
 way : (ss ts : List ℕ) (k n i : ℕ) → k ≡ n → Makes-way ss k i ts → Makes-way ss n i ts
 way ss ts k n i e w = subst (λ j. Makes-way ss j i ts) e w
 
-pub invariant-of-self-in-New : goal.invariant-of-self-in-New
-invariant-of-self-in-New c =
+pub invariant_of-self-in-New : goal.invariant_of-self-in-New
+invariant_of-self-in-New c =
     let o = ordered c.args.self.now in
     let a = c.in-New.ensures.enters.adds (sound _ _ _ _ o) in
     let k = c.size-size.result + 1 in
     let x = record_of c.args.entry k in
-    let w = ordered_put _ _ _ _ o c.make-way.new.self.seats.now c.in-New.i x a.1.within a.2 (omega arith) (way _ _ _ _ _ c.size-size.ensures c.make-way.ensures.way) c.args.entry k (refl {a = x}) a.0
+    let w = ordered_put _ _ _ _ o c.make_way.new.self.seats.now c.in-New.i x a.1.within a.2 (omega arith) (way _ _ _ _ _ c.size-size.ensures c.make_way.ensures.way) c.args.entry k (refl {a = x}) a.0
     c.enter.new.row.slots.now c.enter.new.row.size c.enter.new.row.places a.3 a.4 c.in-New.ensures.enters.places (c.in-New.ensures.enters.sound (sound _ _ _ _ o)) in
     (w.within, (w.fits, (w.benches, (w.few, (w.rising, (w.seated, (w.named, (w.counted, (w.returned, tt)))))))))
 
@@ -28,19 +28,19 @@ returns-in-Held c =
     let e = c.args.entry in
     let f = found_read _ _ _ _ o e.clause (record_of e (c.size-size.result + 1)) c.records.result.now c.in-Held.i c.index-records-i.result c.number.result
     (same_records _ _ _ _ o e row.slots.now row.size row.places a.1 a.2 stays c.records.result.now c.records.ensures) a.0 (refl {a = e.clause})
-    c.index-records-i.is c.number.ensures.value c.number.ensures.words c.words-fit.ensures in
+    c.index-records-i.is c.number.ensures.value c.number.ensures.words c.words_fit.ensures in
     let r = put_held _ _ _ _ o e row.slots.now row.size row.places a.1 a.2 stays c.number.result f in
     record { answers = r.0; after = r.1; slots = c.enter.ensures.enters.beyond; seats = refl; lender = (c.enter.ensures.lender, refl) }
 
 pub returns-in-New : goal.returns-in-New
 returns-in-New c =
     let o = ordered c.args.self.now in
-    let ts = c.make-way.new.self.seats.now in
+    let ts = c.make_way.new.self.seats.now in
     let row = c.enter.new.row in
     let a = c.in-New.ensures.enters.adds (sound _ _ _ _ o) in
     let k = c.size-size.result + 1 in
     let x = record_of c.args.entry k in
-    let w = way _ _ _ _ c.in-New.i c.size-size.ensures c.make-way.ensures.way in
+    let w = way _ _ _ _ c.in-New.i c.size-size.ensures c.make_way.ensures.way in
     let same = c.in-New.ensures.enters.places in
     record {
       answers = ap (λ k. Ok (k + 1)) c.size-size.ensures
@@ -48,7 +48,7 @@ returns-in-New c =
       after = after_new _ _ _ _ o ts c.in-New.i x a.1.within a.2 (omega arith) w c.args.entry k (refl {a = x}) a.0 row.slots.now row.size row.places a.3 a.4 same;
       slots = c.enter.ensures.enters.beyond;
       seats = seats_beyond _ _ _ _ _ w a.2;
-      lender = (c.enter.ensures.lender, c.make-way.ensures.lender);
+      lender = (c.enter.ensures.lender, c.make_way.ensures.lender);
     }
 
 pub returns-in-Full : goal.returns-in-Full

@@ -7,8 +7,8 @@ use Rattle.skip_store.proofs.list.SkipList.all_before.Goals as goal
 pub loop-level-init : goal.loop-level-init
 loop-level-init c = (omega arith, on_head 15, omega (arith, spot_head c.args.self.now.records.now), refl, λ m a b. absurd (omega arith))
 
-pub last-before-last-requires : goal.last-before-last-requires
-last-before-last-requires c =
+pub last_before-last-requires : goal.last_before-last-requires
+last_before-last-requires c =
     let i = c.loop-level.invariant in
     let e : c.loop-level.level ≡ c.loop-level.level - 1 + 1 = omega arith in
     record {
@@ -22,11 +22,11 @@ last-before-last-requires c =
 pub loop-level-preserved : goal.loop-level-preserved
 loop-level-preserved c =
     let i = c.loop-level.invariant in
-    let r = c.last-before-last.ensures in (
+    let r = c.last_before-last.ensures in (
       r.within,
       r.level,
       r.before,
       length-set _ _ _ ∙ i.3,
       preds_more (λ m j. Prev (spot c.args.self.now.records.now) c.args.self.now.size m (spot_of c.args.clause.now) j)
-          c.loop-level.before c.loop-level.level c.last-before-last.result (omega arith) (omega arith) i.3 r i.4,
+          c.loop-level.before c.loop-level.level c.last_before-last.result (omega arith) (omega arith) i.3 r i.4,
     )

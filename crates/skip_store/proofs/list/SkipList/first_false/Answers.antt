@@ -20,4 +20,4 @@ pub loop-k-preserved : goal.loop-k-preserved
 loop-k-preserved c = let f = c.in-Some.ensures in true_more _ _ _ _ _ _ c.requires.sound.apart c.loop-k.invariant f.1 f.0 c.if-fails.ensures
 
 pub returns : goal.returns
-returns c = none_false _ _ _ _ _ 0 c.requires.sound.apart c.loop-k.invariant c.in-default.ensures refl
+returns c = none_false _ _ _ _ _ 0 c.requires.sound.apart c.loop-k.invariant c.in_default.ensures refl

@@ -8,5 +8,5 @@ returns c =
     let e = ap (λ x. x.clause) c.record.ensures in
     record {
       spots = compares c.args.self.now.records.now c.args.k c.args.clause.now c.record.result.clause c.compare.result c.requires.0 e c.compare.ensures.ranks;
-      words = (subst Words e c.words-fit.ensures, c.words-fit-2.ensures);
+      words = (subst Words e c.words_fit.ensures, c.words_fit-2.ensures);
     }

@@ -3,23 +3,23 @@ use Rattle.std.proofs.lemmas.Bool.Decides.{not_from_Decides}
 use Rattle.trace_check.proofs.Knowing.{stands_more, stands_wrong}
 use Rattle.trace_check.proofs.check.OpenCheck.take.Goals as goal
 
-pub invariant-of-self : goal.invariant-of-self
-invariant-of-self c =
+pub invariant_of-self : goal.invariant_of-self
+invariant_of-self c =
     let s = c.args.self.now in (
       omega arith,
       (
-        stands_more s.trace.now s.atoms s.last s.taken s.fault c.in-default.is (c.next-is-right.ensures.0 c.if-next-is-right.true) s.stands,
+        stands_more s.trace.now s.atoms s.last s.taken s.fault c.in_default.is (c.next_is_right.ensures.0 c.if-next_is_right.true) s.stands,
         tt,
       ),
     )
 
-pub invariant-of-self-else-next-is-right : goal.invariant-of-self-else-next-is-right
-invariant-of-self-else-next-is-right c =
+pub invariant_of-self-else-next_is_right : goal.invariant_of-self-else-next_is_right
+invariant_of-self-else-next_is_right c =
     let s = c.args.self.now in (
       s.within,
       (
-        stands_wrong s.trace.now s.atoms s.last s.taken s.fault c.in-default.is c.if-self.false
-            (not_from_Decides c.next-is-right.result c.next-is-right.ensures c.if-next-is-right.false) s.stands,
+        stands_wrong s.trace.now s.atoms s.last s.taken s.fault c.in_default.is c.if-self.false
+            (not_from_Decides c.next_is_right.result c.next_is_right.ensures c.if-next_is_right.false) s.stands,
         tt,
       ),
     )
