@@ -34,8 +34,8 @@ pub(crate) fn number(word: &[u8]) -> Option<u32>
 
 // Whether a word begins with a minus, and the bytes of its number.
 fn sign(word: &[u8]) -> (bool, &[u8])
-    ensures result_value { result.0 ≡ minus word.now }
-    ensures result_value_2 { result.1.now ≡ unsigned word.now }
+    ensures negative { result.0 ≡ minus word.now }
+    ensures rest { result.1.now ≡ unsigned word.now }
 {
     match word {
         [b'-', rest @ ..] => (true, rest),

@@ -12,4 +12,4 @@ after : (w : List ℕ) → minus w ≡ true → take (length w - 1) (drop 1 w) �
 after w m = take_rest w 1 ∙ sym (cond-true (minus w) (drop 1 w) w m)
 
 pub returns-in-45 : goal.returns-in-45
-returns-in-45 c = let m : minus c.args.word.now ≡ true = has_minus c.args.word.now (search rules) (search rules) in (sym m, after c.args.word.now m)
+returns-in-45 c = let m : minus c.args.word.now ≡ true = has_minus c.args.word.now (search rules) (search rules) in record { negative = sym m; rest = after c.args.word.now m }
