@@ -59,8 +59,8 @@ fn decide(text: &[u8], atoms: u32, out: &mut [u8]) -> usize
 // Runs and prints how the run ended.
 fn print_run<S: ClauseStore>(session: &mut Session<'_, S>, atoms: u32, out: &mut [u8]) -> usize
     requires { (512 ≤ length out.old) × (atoms ≤ 64) }
-    ensures place { result ≡ length (ran atoms (run (held session.old.store.now) session.old.search 2000000)) }
-    ensures after { out.new ≡ wrote out.old 0 (ran atoms (run (held session.old.store.now) session.old.search 2000000)) }
+    ensures place { result ≡ length (ran atoms (run (S.held session.old.store.now) session.old.search 2000000)) }
+    ensures after { out.new ≡ wrote out.old 0 (ran atoms (run (S.held session.old.store.now) session.old.search 2000000)) }
     ensures bound { result ≤ 512 }
 {
     match session.run(2_000_000) {

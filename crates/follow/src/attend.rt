@@ -49,7 +49,7 @@ fn walk<S: ClauseStore>(
     most: u32,
 ) -> io::Result<u64>
     ensures named { session.new.store.ghost_name ≡ session.old.store.ghost_name }
-    ensures made { IfOk result (λ n. after (held session.new.store.now) session.new.search n ≡ walked most (held session.old.store.now) session.old.search items) }
+    ensures made { IfOk result (λ n. after (S.held session.new.store.now) session.new.search n ≡ walked most (S.held session.old.store.now) session.old.search items) }
 {
     let mut items = items;
     for _ in 0..most {
@@ -71,7 +71,7 @@ fn perform<S: ClauseStore>(
     call: &Call,
 ) -> io::Result<u64>
     ensures named { session.new.store.ghost_name ≡ session.old.store.ghost_name }
-    ensures made { IfOk result (λ n. after (held session.new.store.now) session.new.search n ≡ performed (held session.old.store.now) session.old.search items call.now) }
+    ensures made { IfOk result (λ n. after (S.held session.new.store.now) session.new.search n ≡ performed (S.held session.old.store.now) session.old.search items call.now) }
 {
     match call {
         Call::Add(literals) => print_item(rt, items, text, add_clause(session, literals)),
@@ -95,7 +95,7 @@ fn attend<S: ClauseStore>(
     requires { at < length lines.now }
     ensures next { IfOk result (λ i. i ≡ at + 1 + until_open (drop (at + 1) lines.now)) }
     ensures named { session.new.store.ghost_name ≡ session.old.store.ghost_name }
-    ensures calls { OnOk result ((n : ℕ) × (after (held session.new.store.now) session.new.search n ≡ attended (drop (at + 1) lines.now) (held session.old.store.now) session.old.search 1)) }
+    ensures calls { OnOk result ((n : ℕ) × (after (S.held session.new.store.now) session.new.search n ≡ attended (drop (at + 1) lines.now) (S.held session.old.store.now) session.old.search 1)) }
 {
     let mut items = 1;
     let mut i = at + 1;

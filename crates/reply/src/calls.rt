@@ -33,7 +33,7 @@ fn ran(report: Result<Report, Refusal>) -> Answer
 // The clause of the literals, accepted or refused.
 pub fn add_clause<S: ClauseStore>(session: &mut Session<'_, S>, literals: &[i32]) -> Answer
     ensures named { session.new.store.ghost_name ≡ session.old.store.ghost_name }
-    ensures made { after (held session.new.store.now) session.new.search (reply_of result) ≡ replied add_reply (add (held session.old.store.now) session.old.search literals.now) }
+    ensures made { after (S.held session.new.store.now) session.new.search (reply_of result) ≡ replied add_reply (add (S.held session.old.store.now) session.old.search literals.now) }
 {
     added(session.add(literals))
 }
@@ -41,7 +41,7 @@ pub fn add_clause<S: ClauseStore>(session: &mut Session<'_, S>, literals: &[i32]
 // A run, told by its counts.
 pub fn run_steps<S: ClauseStore>(session: &mut Session<'_, S>, budget: u32) -> Answer
     ensures named { session.new.store.ghost_name ≡ session.old.store.ghost_name }
-    ensures made { after (held session.new.store.now) session.new.search (reply_of result) ≡ replied run_reply (run (held session.old.store.now) session.old.search budget) }
+    ensures made { after (S.held session.new.store.now) session.new.search (reply_of result) ≡ replied run_reply (run (S.held session.old.store.now) session.old.search budget) }
 {
     ran(session.run(budget))
 }
@@ -49,7 +49,7 @@ pub fn run_steps<S: ClauseStore>(session: &mut Session<'_, S>, budget: u32) -> A
 // A run with budget 1, told by the step that it made.
 pub fn walk_once<S: ClauseStore>(session: &mut Session<'_, S>) -> Answer
     ensures named { session.new.store.ghost_name ≡ session.old.store.ghost_name }
-    ensures made { after (held session.new.store.now) session.new.search (reply_of result) ≡ stepped_once (held session.old.store.now) session.old.search }
+    ensures made { after (S.held session.new.store.now) session.new.search (reply_of result) ≡ stepped_once (S.held session.old.store.now) session.old.search }
 {
     let before = session.search();
     match session.run(1) {

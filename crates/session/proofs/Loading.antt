@@ -1,7 +1,7 @@
 -- What a load answers, by what the text was found to be.
 use Rattle.std.proofs.Common.{◌≡◌, ℕ, ◌-◌, ltb, List, length, Ok, Err, Result, sym, refl, ap, ◌∙◌, arith}
 use Rattle.clause.specs.declared.refusal.Refusal.{Refusal}
-use Rattle.clause.specs.Refusals.{Told, told}
+use Rattle.clause.specs.Refusals.{Told}
 use Rattle.dimacs.specs.declared.heading.Heading.{Heading}
 use Rattle.dimacs.specs.Walk.{Parsed, parse, counts}
 use Rattle.store.specs.Held.{Held}

@@ -1,5 +1,5 @@
 -- How the search part of a session changes.
-use Rattle.std.specs.Prelude.{◌≡◌, ℕ, zero, suc, ◌+◌, ◌-◌, ◌≤◌, Bool, true, false, cond, ◌||◌, List, ◌++◌, take, replicate, Some, None, Option, slice_index_or, slice_set}
+use Rattle.std.specs.Prelude.{ℕ, zero, suc, ◌-◌, cond, List, ◌++◌, take, replicate, Some, None, Option, slice_index_or, slice_set}
 use Rattle.clause.specs.declared.words.Clause.{Clause}
 use Rattle.clause.specs.Clauses.{lits, makes, top}
 use Rattle.clause.specs.Words.{with_atom, upto}

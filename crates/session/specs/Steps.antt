@@ -1,5 +1,5 @@
 -- A step of the search, and a run of steps within a budget, over what a store holds.
-use Rattle.std.specs.Prelude.{◌≡◌, ℕ, zero, suc, Bool, true, false, cond, Some, None, Ok, Err, Option, Result, ◌==◌}
+use Rattle.std.specs.Prelude.{ℕ, zero, suc, Bool, true, false, Some, None, Ok, Err, Option, Result, ◌==◌}
 use Rattle.clause.specs.declared.words.Clause.{Clause}
 use Rattle.clause.specs.Clauses.{lits, top, resolvent}
 use Rattle.clause.specs.Words.{at}

@@ -28,7 +28,7 @@ pub struct Session<'a, S: ClauseStore> {
 
 // The first refusal that is due at an opening, if any is.
 pub fn due_at_opening<S: ClauseStore>(atoms: u32, store: &S) -> Option<Refusal>
-    ensures { result ≡ due atoms (held store.now) }
+    ensures { result ≡ due atoms (S.held store.now) }
 {
     if atoms == 0 || atoms > 64 {
         return Some(Refusal::AtomCount);
@@ -57,7 +57,7 @@ impl<'a, S: ClauseStore> Session<'a, S> {
     pub fn open(atoms: u32, store: &'a mut S) -> Session<'a, S>
         ensures store { result.store.now ≡ store.old }
         ensures named { result.store.ghost_name ≡ store.entry.ghost_name }
-        ensures search { result.search ≡ opened atoms (held store.old) }
+        ensures search { result.search ≡ opened atoms (S.held store.old) }
     {
         let phase = phase_of(due_at_opening(atoms, store));
         Session {
@@ -69,7 +69,7 @@ impl<'a, S: ClauseStore> Session<'a, S> {
     // The clause of the literals, accepted: its number.
     pub fn add(&mut self, literals: &[i32]) -> Result<u16, Refusal>
         ensures named { self.new.store.ghost_name ≡ self.old.store.ghost_name }
-        ensures made { after (held self.new.store.now) self.new.search (answer result) ≡ add (held self.old.store.now) self.old.search literals.now }
+        ensures made { after (S.held self.new.store.now) self.new.search (answer result) ≡ add (S.held self.old.store.now) self.old.search literals.now }
     {
         if let Phase::Unopened(e) = self.search.phase {
             return Err(e);
@@ -82,7 +82,7 @@ impl<'a, S: ClauseStore> Session<'a, S> {
 
     fn accept(&mut self, clause: &Clause) -> Result<u16, Refusal>
         ensures named { self.new.store.ghost_name ≡ self.old.store.ghost_name }
-        ensures made { after (held self.new.store.now) self.new.search (answer result) ≡ add_clause (held self.old.store.now) self.old.search clause.now (top (lits clause.now) == 0) }
+        ensures made { after (S.held self.new.store.now) self.new.search (answer result) ≡ add_clause (S.held self.old.store.now) self.old.search clause.now (top (lits clause.now) == 0) }
     {
         if clause.is_empty() {
             return Err(Refusal::NoLiteral(0));
@@ -102,7 +102,7 @@ impl<'a, S: ClauseStore> Session<'a, S> {
     // The clauses of the text, accepted in order, or none of them: how many there are.
     pub fn load(&mut self, text: &[u8]) -> Result<u16, Refusal>
         ensures named { self.new.store.ghost_name ≡ self.old.store.ghost_name }
-        ensures made { after (held self.new.store.now) self.new.search (answer result) ≡ load (held self.old.store.now) self.old.search text.now }
+        ensures made { after (S.held self.new.store.now) self.new.search (answer result) ≡ load (S.held self.old.store.now) self.old.search text.now }
     {
         if let Phase::Unopened(e) = self.search.phase {
             return Err(e);
@@ -116,7 +116,7 @@ impl<'a, S: ClauseStore> Session<'a, S> {
     // The same of a text that was found to have `count` clauses and no fault.
     fn load_checked(&mut self, text: &[u8], count: u32) -> Result<u16, Refusal>
         ensures named { self.new.store.ghost_name ≡ self.old.store.ghost_name }
-        ensures made { (p : Parsed) → parse self.old.search.atoms text.now ≡ Ok p → length p.clauses ≡ count → after (held self.new.store.now) self.new.search (answer result) ≡ load_all (held self.old.store.now) self.old.search p.clauses (nat_lt ((held self.old.store.now).places - length (held self.old.store.now).entries) (length p.clauses)) }
+        ensures made { (p : Parsed) → parse self.old.search.atoms text.now ≡ Ok p → length p.clauses ≡ count → after (S.held self.new.store.now) self.new.search (answer result) ≡ load_all (S.held self.old.store.now) self.old.search p.clauses (nat_lt ((S.held self.old.store.now).places - length (S.held self.old.store.now).entries) (length p.clauses)) }
     {
         if self.has_free(count) {
             let mut clauses = Clauses::new(text, self.search.atoms);
@@ -128,7 +128,7 @@ impl<'a, S: ClauseStore> Session<'a, S> {
 
     // Whether so many places are free.
     fn has_free(&self, count: u32) -> bool
-        ensures value { result ≡ not (nat_lt ((held self.now.store.now).places - length (held self.now.store.now).entries) count) }
+        ensures value { result ≡ not (nat_lt ((S.held self.now.store.now).places - length (S.held self.now.store.now).entries) count) }
         ensures few { result ≡ true → count ≤ 16384 }
     {
         count <= u32::from(self.store.places() - self.store.size())
@@ -136,7 +136,7 @@ impl<'a, S: ClauseStore> Session<'a, S> {
 
     fn accept_all(&mut self, clauses: &mut Clauses<'_>)
         ensures named { self.new.store.ghost_name ≡ self.old.store.ghost_name }
-        ensures made { (m : ℕ) → after (held self.new.store.now) self.new.search (Ok m) ≡ loads m (held self.old.store.now) self.old.search (to_come clauses.old) }
+        ensures made { (m : ℕ) → after (S.held self.new.store.now) self.new.search (Ok m) ≡ loads m (S.held self.old.store.now) self.old.search (to_come clauses.old) }
     {
         while let Some(clause) = clauses.next_clause() {
             let _ = self.accept(&clause);
@@ -146,7 +146,7 @@ impl<'a, S: ClauseStore> Session<'a, S> {
     // At most `budget` steps, until a verdict stands or a step is stopped.
     pub fn run(&mut self, budget: u32) -> Result<Report, Refusal>
         ensures named { self.new.store.ghost_name ≡ self.old.store.ghost_name }
-        ensures made { after (held self.new.store.now) self.new.search (run_answer result) ≡ run (held self.old.store.now) self.old.search budget }
+        ensures made { after (S.held self.new.store.now) self.new.search (run_answer result) ≡ run (S.held self.old.store.now) self.old.search budget }
     {
         if let Phase::Unopened(e) = self.search.phase {
             return Err(e);
@@ -159,7 +159,7 @@ impl<'a, S: ClauseStore> Session<'a, S> {
 
     fn steps(&mut self, budget: u32) -> Result<Report, Refusal>
         ensures named { self.new.store.ghost_name ≡ self.old.store.ghost_name }
-        ensures made { after (held self.new.store.now) self.new.search (run_answer result) ≡ runs budget (held self.old.store.now) self.old.search none_made }
+        ensures made { after (S.held self.new.store.now) self.new.search (run_answer result) ≡ runs budget (S.held self.old.store.now) self.old.search none_made }
     {
         let mut left = budget;
         let mut made = Tally::none();
@@ -200,7 +200,7 @@ impl<'a, S: ClauseStore> Session<'a, S> {
 
     // The number of the first held clause in clause order that is false.
     fn first_false(&self) -> Option<u16>
-        ensures { result ≡ least_false (held self.now.store.now) self.now.search.valuation }
+        ensures { result ≡ least_false (S.held self.now.store.now) self.now.search.valuation }
     {
         self.store.least_false(self.search.valuation)
     }
@@ -208,7 +208,7 @@ impl<'a, S: ClauseStore> Session<'a, S> {
     // The step that acts on entry k.
     fn act(&mut self, k: u16) -> Result<Step, Refusal>
         ensures named { self.new.store.ghost_name ≡ self.old.store.ghost_name }
-        ensures made { after (held self.new.store.now) self.new.search (answer result) ≡ step_at (held self.old.store.now) self.old.search k (entry_at (held self.old.store.now).entries k) }
+        ensures made { after (S.held self.new.store.now) self.new.search (answer result) ≡ step_at (S.held self.old.store.now) self.old.search k (entry_at (S.held self.old.store.now).entries k) }
     {
         let Some(e) = self.store.entry(k) else {
             return Err(Refusal::DerivedBothSigns);
@@ -219,7 +219,7 @@ impl<'a, S: ClauseStore> Session<'a, S> {
     // Sets the highest atom of the false clause c, which has number k, or derives a clause from the reason of that atom and c.
     fn step(&mut self, k: u16, c: &Clause) -> Result<Step, Refusal>
         ensures named { self.new.store.ghost_name ≡ self.old.store.ghost_name }
-        ensures made { after (held self.new.store.now) self.new.search (answer result) ≡ step (held self.old.store.now) self.old.search k c.now }
+        ensures made { after (S.held self.new.store.now) self.new.search (answer result) ≡ step (S.held self.old.store.now) self.old.search k c.now }
     {
         let p = c.highest();
         if p == 0 {

@@ -47,7 +47,7 @@ fn put_answer(put: Result<u16, Refusal>) -> Answer
 }
 
 fn find<S: ClauseStore>(store: &S, words: &Words) -> Answer
-    ensures { result ≡ finds_in (held store.now) (clause_in words.now) }
+    ensures { result ≡ finds_in (S.held store.now) (clause_in words.now) }
 {
     match clause_in(words) {
         Some(clause) => number_answer(store.find(&clause)),
@@ -56,8 +56,8 @@ fn find<S: ClauseStore>(store: &S, words: &Words) -> Answer
 }
 
 fn put<S: ClauseStore>(store: &mut S, words: &Words, first: u16, second: u16) -> Answer
-    ensures answers { result ≡ puts_in (held store.old) (clause_in words.now) first second }
-    ensures after { held store.new ≡ leaves_in (held store.old) (clause_in words.now) first second }
+    ensures answers { result ≡ puts_in (S.held store.old) (clause_in words.now) first second }
+    ensures after { S.held store.new ≡ leaves_in (S.held store.old) (clause_in words.now) first second }
 {
     match clause_in(words) {
         Some(clause) => put_answer(store.put(Entry::derived(clause, first, second))),
@@ -67,8 +67,8 @@ fn put<S: ClauseStore>(store: &mut S, words: &Words, first: u16, second: u16) ->
 
 // What the store answers to the request.
 pub fn ask<S: ClauseStore>(store: &mut S, request: &Request) -> Answer
-    ensures answers { result ≡ answered (held store.old) request.now }
-    ensures after { held store.new ≡ afterwards (held store.old) request.now }
+    ensures answers { result ≡ answered (S.held store.old) request.now }
+    ensures after { S.held store.new ≡ afterwards (S.held store.old) request.now }
 {
     match request {
         Request::Size => Answer::Count(store.size()),

@@ -28,10 +28,10 @@ fn write_refutation<S: ClauseStore>(
     buffer: &mut [u8],
     marks: &mut [u8],
 ) -> usize
-    requires { (length (held session.now.store.now).entries ≤ length marks.old) × (24 * (length (held session.now.store.now).entries + 2) ≤ length buffer.old) }
-    ensures bytes { buffer.new ≡ over (trace session.now.search.atoms (held session.now.store.now).entries first second) buffer.old }
-    ensures marks { marks.new ≡ over (marks_of (held session.now.store.now).entries first second) marks.old }
-    ensures count { result ≡ length (trace session.now.search.atoms (held session.now.store.now).entries first second) }
+    requires { (length (S.held session.now.store.now).entries ≤ length marks.old) × (24 * (length (S.held session.now.store.now).entries + 2) ≤ length buffer.old) }
+    ensures bytes { buffer.new ≡ over (trace session.now.search.atoms (S.held session.now.store.now).entries first second) buffer.old }
+    ensures marks { marks.new ≡ over (marks_of (S.held session.now.store.now).entries first second) marks.old }
+    ensures count { result ≡ length (trace session.now.search.atoms (S.held session.now.store.now).entries first second) }
 {
     mark(session, first, second, marks);
     put_trace(session, first, second, marks, buffer)
@@ -44,7 +44,7 @@ pub fn write_trace<S: ClauseStore>(
     buffer: &mut [u8],
     marks: &mut [u8],
 ) -> Result<usize, Refusal>
-    ensures { left buffer.new marks.new (answer result) ≡ traced (held session.now.store.now) session.now.search buffer.old marks.old }
+    ensures { left buffer.new marks.new (answer result) ≡ traced (S.held session.now.store.now) session.now.search buffer.old marks.old }
 {
     match session.search().phase {
         Phase::Unopened(e) => Err(e),

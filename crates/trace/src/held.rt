@@ -8,7 +8,7 @@ use store::store::ClauseStore;
 
 // How many entries the session holds.
 pub(crate) fn count<S: ClauseStore>(session: &Session<'_, S>) -> usize
-    ensures value { result ≡ length (held session.now.store.now).entries }
+    ensures value { result ≡ length (S.held session.now.store.now).entries }
     ensures few { result ≤ 16384 }
 {
     session.size() as usize
@@ -16,7 +16,7 @@ pub(crate) fn count<S: ClauseStore>(session: &Session<'_, S>) -> usize
 
 // Entry k as a line, with the numbers of entries; the empty clause where there is no such entry.
 pub(crate) fn held_line<S: ClauseStore>(session: &Session<'_, S>, k: u16) -> Line
-    ensures { result ≡ as_line (entry_of (held session.now.store.now).entries k) }
+    ensures { result ≡ as_line (entry_of (S.held session.now.store.now).entries k) }
 {
     match session.entry(k) {
         Some(e) => Line {

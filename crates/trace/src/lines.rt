@@ -59,11 +59,11 @@ fn put_entries<S: ClauseStore>(
     table: &[u16],
     buffer: &mut [u8],
 ) -> Count
-    requires { (length (held session.now.store.now).entries ≤ length marks.now) × ((24 * length (held session.now.store.now).entries ≤ length buffer.old) × (Table (chosen marks.now (held session.now.store.now).entries) table.now)) }
-    ensures wrote { buffer.new ≡ over (lines_bytes (entry_lines (held session.now.store.now).entries (chosen marks.now (held session.now.store.now).entries))) buffer.old }
-    ensures lines { result.lines ≡ length (chosen marks.now (held session.now.store.now).entries) }
-    ensures given { result.given ≡ given_lines (entry_lines (held session.now.store.now).entries (chosen marks.now (held session.now.store.now).entries)) }
-    ensures few { (result.lines ≤ length (held session.now.store.now).entries) × (result.given ≤ result.lines) }
+    requires { (length (S.held session.now.store.now).entries ≤ length marks.now) × ((24 * length (S.held session.now.store.now).entries ≤ length buffer.old) × (Table (chosen marks.now (S.held session.now.store.now).entries) table.now)) }
+    ensures wrote { buffer.new ≡ over (lines_bytes (entry_lines (S.held session.now.store.now).entries (chosen marks.now (S.held session.now.store.now).entries))) buffer.old }
+    ensures lines { result.lines ≡ length (chosen marks.now (S.held session.now.store.now).entries) }
+    ensures given { result.given ≡ given_lines (entry_lines (S.held session.now.store.now).entries (chosen marks.now (S.held session.now.store.now).entries)) }
+    ensures few { (result.lines ≤ length (S.held session.now.store.now).entries) × (result.given ≤ result.lines) }
 {
     let size = count(session);
     let mut lines = 0;
@@ -102,9 +102,9 @@ pub(crate) fn put_trace<S: ClauseStore>(
     marks: &[u8],
     buffer: &mut [u8],
 ) -> usize
-    requires { (length (held session.now.store.now).entries ≤ length marks.now) × (24 * (length (held session.now.store.now).entries + 2) ≤ length buffer.old) }
-    ensures bytes { buffer.new ≡ over (trace_of session.now.search.atoms (trace_lines (held session.now.store.now).entries (chosen marks.now (held session.now.store.now).entries) first second)) buffer.old }
-    ensures count { result ≡ length (trace_of session.now.search.atoms (trace_lines (held session.now.store.now).entries (chosen marks.now (held session.now.store.now).entries) first second)) }
+    requires { (length (S.held session.now.store.now).entries ≤ length marks.now) × (24 * (length (S.held session.now.store.now).entries + 2) ≤ length buffer.old) }
+    ensures bytes { buffer.new ≡ over (trace_of session.now.search.atoms (trace_lines (S.held session.now.store.now).entries (chosen marks.now (S.held session.now.store.now).entries) first second)) buffer.old }
+    ensures count { result ≡ length (trace_of session.now.search.atoms (trace_lines (S.held session.now.store.now).entries (chosen marks.now (S.held session.now.store.now).entries) first second)) }
 {
     let mut table = [0u16; 16384];
     number(marks, count(session), &mut table);

@@ -51,8 +51,8 @@ pub(crate) fn mark<S: ClauseStore>(
     second: u16,
     marks: &mut [u8],
 )
-    requires { length (held session.now.store.now).entries ≤ length marks.old }
-    ensures { marks.new ≡ over (marks_of (held session.now.store.now).entries first second) marks.old }
+    requires { length (S.held session.now.store.now).entries ≤ length marks.old }
+    ensures { marks.new ≡ over (marks_of (S.held session.now.store.now).entries first second) marks.old }
 {
     let size = count(session);
     clear(marks, size);

@@ -16,19 +16,19 @@ impl<'a, S: ClauseStore> Session<'a, S> {
 
     // Entry k of the store, nothing outside 1 to its size.
     pub fn entry(&self, k: u16) -> Option<Entry>
-        ensures { result ≡ entry_at (held self.now.store.now).entries k }
+        ensures { result ≡ entry_at (S.held self.now.store.now).entries k }
     {
         self.store.entry(k)
     }
 
     pub fn size(&self) -> u16
-        ensures { result ≡ length (held self.now.store.now).entries }
+        ensures { result ≡ length (S.held self.now.store.now).entries }
     {
         self.store.size()
     }
 
     pub fn places(&self) -> u16
-        ensures { result ≡ (held self.now.store.now).places }
+        ensures { result ≡ (S.held self.now.store.now).places }
     {
         self.store.places()
     }

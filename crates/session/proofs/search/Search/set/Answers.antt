@@ -1,7 +1,6 @@
-use Rattle.std.proofs.Common.{◌≡◌, ℕ, ◌-◌, ◌*◌, ◌%◌, ◌^◌, sym, ap, ◌∙◌, arith, rules}
-use lib.Bits.{bit_or}
+use Rattle.std.proofs.Common.{arith, rules}
 use Rattle.clause.proofs.Bits.{one_some}
-use Rattle.clause.specs.Words.{with_atom, one}
+use Rattle.clause.specs.Words.{with_atom}
 use Rattle.session.specs.Searching.{setting}
 use Rattle.session.proofs.search.Search.set.Goals as goal
 

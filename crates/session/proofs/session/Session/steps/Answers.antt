@@ -1,6 +1,6 @@
-use Rattle.std.proofs.Common.{◌≡◌, ◌<◌, sym, ◌∙◌, arith}
+use Rattle.std.proofs.Common.{◌<◌, ◌∙◌, arith}
 use Rattle.clause.specs.Refusals.{told}
-use Rattle.session.proofs.Running.{Open, runs_unopened, runs_refuted, runs_satisfied, runs_spent, runs_step, runs_stopped}
+use Rattle.session.proofs.Running.{runs_unopened, runs_refuted, runs_satisfied, runs_spent, runs_step, runs_stopped}
 use Rattle.session.proofs.session.Session.steps.Goals as goal
 
 pub returns-in-Unopened-default-default : goal.returns-in-Unopened-default-default
