@@ -1,13 +1,11 @@
 -- Worked examples: what sessions with three atoms answer, by computation.
-use Rattle.std.specs.Prelude.{◌≡◌, ℕ, ◌<◌, Bool, true, List, [], ◌∷◌, ℤ, pos, negsuc, Ok, Err, Result, nat_lt, refl}
-use Rattle.clause.specs.declared.words.Clause.{Clause}
+use Rattle.std.specs.Prelude.{◌≡◌, ℕ, true, List, [], ◌∷◌, ℤ, pos, negsuc, Ok, Err, Result, nat_lt}
 use Rattle.clause.specs.Clauses.{Literals}
 use Rattle.clause.specs.Order.{rank}
 use Rattle.clause.specs.Refusals.{Told, refused}
 use Rattle.store.specs.Held.{Held}
 use Rattle.session.specs.declared.search.Search.{Search}
-use Rattle.session.specs.declared.search.Phase.{Phase}
-use Rattle.session.specs.declared.search.Phase.TheVariants.{Unopened, Undecided, Satisfied, Refuted}
+use Rattle.session.specs.declared.search.Phase.TheVariants.{Refuted}
 use Rattle.session.specs.Reports.{Said, satisfiable, unsatisfiable, stopped, Ended}
 use Rattle.session.specs.Steps.{After}
 use Rattle.session.specs.Calls.{opened, add, run, shown}

@@ -1,31 +1,30 @@
 -- An add keeps the invariant.
-use Rattle.std.proofs.Common.{◌≡◌, ℕ, suc, ◌+◌, ◌-◌, ◌^◌, ◌<◌, ◌≤◌, min, Bool, true, false, cond, eqb, ◌⊎◌, List, [], ◌∷◌, ◌++◌, length, get_or, ℤ, Some, None, Ok, Err, Option, Result, sym, refl, ap, ◌∙◌, subst, ⊎_elim, arith}
+use Rattle.std.proofs.Common.{◌≡◌, ℕ, ◌+◌, ◌<◌, Bool, true, false, eqb, List, [], ◌∷◌, ◌++◌, length, ℤ, Some, None, Ok, Err, Option, Result, sym, refl, ap, ◌∙◌, subst, ⊎_elim, arith}
 use Rattle.std.proofs.lemmas.List.{get_or_push, get_or_append_left, length_push}
-use Rattle.std.proofs.lemmas.Bool.{cases_lt, eqb-true, eqb-false, cond-true, cond-false, cond_both}
+use Rattle.std.proofs.lemmas.Bool.{cases_lt, eqb-false, cond-true, cond-false, cond_both}
 use Rattle.clause.specs.declared.words.Clause.{Clause}
-use Rattle.clause.specs.Words.{at, upto}
-use Rattle.clause.specs.Clauses.{Literals, lits, makes, top}
+use Rattle.clause.specs.Words.{at}
+use Rattle.clause.specs.Clauses.{lits, makes, top}
 use Rattle.clause.specs.Reading.{reads, clear}
 use Rattle.clause.specs.Refusals.{Told, refused}
 use Rattle.clause.proofs.Truths.{top_bound}
-use Rattle.store.specs.declared.entry.Entry.{Entry}
 use Rattle.store.specs.Held.{Held, size, clause_at, found, full, pushed, after_put, after_put_at, put_answer, put_answer_at}
-use Rattle.store.proofs.Finds.{some_found, Stands}
+use Rattle.store.proofs.Finds.{some_found}
 use Rattle.session.specs.declared.search.Search.{Search}
 use Rattle.session.specs.declared.search.Phase.{Phase}
 use Rattle.session.specs.declared.search.Phase.TheVariants.{Unopened, Undecided, Satisfied, Refuted}
 use Rattle.session.specs.Reports.{more}
 use Rattle.session.specs.Searching.{cleared, withdrawn, one_given, admitted}
 use Rattle.session.specs.Steps.{After, after}
-use Rattle.session.specs.Calls.{given, put_new, adding, add_clause, add_read, add_in, add}
+use Rattle.session.specs.Calls.{given, put_new, adding, add_clause, add_read, add_in}
 use Rattle.search_law.proofs.Counts.{exact}
 use Rattle.search_law.proofs.Entries.{find_push, same_lits}
 use Rattle.search_law.proofs.Growth.{Cut, uncut, cut_at, grow, accept}
 use Rattle.search_law.proofs.Literals.{reads_ordinary}
 use Rattle.search_law.proofs.Reasons.{keep_true}
 use Rattle.search_law.proofs.Steps.{still}
-use Rattle.search_law.specs.Law.{Inv, Onward, Ordinary, Says, last_one, Added, AddLaw}
-use Rattle.search_law.specs.Models.{Makes, Models}
+use Rattle.search_law.specs.Law.{Inv, Says, last_one, Added, AddLaw}
+use Rattle.search_law.specs.Models.{Makes}
 
 -- what makes the accepted clauses and one more true
 module _ (acc : List Clause) (c : Clause) (v : ℕ) where

@@ -1,5 +1,5 @@
 -- The counts of a session stay far below 32 bits.
-use Rattle.std.proofs.Common.{◌≡◌, ℕ, ◌+◌, ◌-◌, ◌*◌, ◌^◌, ◌<◌, ◌≤◌, min, List, mul-le-mul, arith}
+use Rattle.std.proofs.Common.{◌≡◌, ℕ, ◌+◌, ◌*◌, ◌^◌, ◌<◌, ◌≤◌, List, mul-le-mul, arith}
 use Rattle.clause.specs.declared.words.Clause.{Clause}
 use Rattle.store.specs.Held.{Held, size}
 use Rattle.session.specs.declared.search.Search.{Search}

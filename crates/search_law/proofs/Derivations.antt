@@ -1,17 +1,16 @@
 -- What a derivation gives.
-use Rattle.std.proofs.Common.{◌≡◌, ℕ, suc, ◌+◌, ◌^◌, ◌<◌, ◌≤◌, Bool, true, false, ◌⊎◌, List, length, get_or, Some, None, Ok, Err, sym, refl, ap, ◌∙◌, subst, ⊎_elim, arith}
+use Rattle.std.proofs.Common.{◌≡◌, ℕ, suc, ◌+◌, ◌^◌, ◌<◌, true, false, List, get_or, None, Ok, Err, sym, refl, ap, ◌∙◌, subst, ⊎_elim, arith}
 use Rattle.std.proofs.lemmas.Bool.{cases_Bool, both_ways, cond-false}
 use Rattle.clause.specs.declared.words.Clause.{Clause}
 use Rattle.clause.specs.Words.{at}
-use Rattle.clause.specs.Clauses.{Literals, lits, makes, top, joined, resolvent, same}
+use Rattle.clause.specs.Clauses.{Literals, lits, makes, top, joined, same}
 use Rattle.clause.specs.Refusals.{refused}
 use Rattle.clause.proofs.Truths.{makes_not, top_has, top_bound}
 use Rattle.store.specs.declared.entry.Entry.{Entry}
-use Rattle.store.specs.Held.{Held, size, blank, clause_at, entry_at, found, full, pushed, after_put, after_put_at, put_answer_at}
+use Rattle.store.specs.Held.{Held, size, blank, clause_at, found, full, pushed, after_put, after_put_at, put_answer_at}
 use Rattle.store.proofs.Finds.{find_none}
 use Rattle.store.proofs.Meanings.{entry_there}
 use Rattle.session.specs.declared.search.Search.{Search}
-use Rattle.session.specs.Searching.{reason_of}
 use Rattle.search_law.proofs.Entries.{same_lits}
 use Rattle.search_law.proofs.Peaks.{minus_on}
 use Rattle.search_law.proofs.Resolve.{Pair, Words, clause_of_lem, join_sound, join_false, join_lower, join_apart, join_pos_fits, join_neg_fits}

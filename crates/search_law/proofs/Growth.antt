@@ -1,15 +1,14 @@
 -- The invariant after true atoms were cleared, under another phase, with one entry more, and with another clause accepted.
-use Rattle.std.proofs.Common.{◌≡◌, ℕ, ◌+◌, ◌-◌, ◌*◌, ◌^◌, ◌<◌, ◌≤◌, min, Bool, true, false, ◌⊎◌, List, [], ◌∷◌, ◌++◌, length, take, replicate, Some, None, sym, refl, ap, ◌∙◌, subst, ⊎_elim, mul-add, arith}
+use Rattle.std.proofs.Common.{◌≡◌, ℕ, ◌+◌, ◌-◌, ◌*◌, ◌^◌, ◌<◌, ◌≤◌, true, false, List, ◌++◌, length, take, replicate, None, sym, refl, ap, ◌∙◌, subst, ⊎_elim, mul-add, arith}
 use Rattle.std.proofs.lemmas.List.{length_push}
 use Rattle.std.proofs.lemmas.Bool.{cases_lt}
 use Rattle.clause.specs.declared.words.Clause.{Clause}
 use Rattle.clause.specs.Words.{at, upto}
-use Rattle.clause.specs.Clauses.{Literals, lits, makes, top, lit}
+use Rattle.clause.specs.Clauses.{lits, makes, top}
 use Rattle.clause.proofs.Bits.{upto_fits}
 use Rattle.clause.proofs.Truths.{makes_agree}
 use Rattle.store.specs.declared.entry.Entry.{Entry}
 use Rattle.store.specs.Held.{Held, size, clause_at, pushed}
-use Rattle.session.specs.declared.report.Tally.{Tally}
 use Rattle.session.specs.declared.search.Search.{Search}
 use Rattle.session.specs.declared.search.Phase.{Phase}
 use Rattle.session.specs.declared.search.Phase.TheVariants.{Unopened, Undecided, Satisfied, Refuted}

@@ -1,12 +1,11 @@
 -- The lowest atom where two valuations differ.
-use Rattle.std.proofs.Common.{◌≡◌, ℕ, zero, suc, ◌^◌, ◌<◌, ◌≤◌, Bool, true, false, ◌⊎◌, List, sym, refl, ◌∙◌, inl, inr, ⊎_elim, arith}
+use Rattle.std.proofs.Common.{◌≡◌, ℕ, zero, suc, ◌^◌, ◌<◌, ◌≤◌, Bool, true, false, ◌⊎◌, sym, refl, ◌∙◌, inl, inr, ⊎_elim, arith}
 use Rattle.std.proofs.lemmas.Bool.{cases_eq, cases_lt, both_ways}
-use Rattle.clause.specs.declared.words.Clause.{Clause}
 use Rattle.clause.specs.Words.{at}
 use Rattle.clause.proofs.Bits.{same_words}
 use Rattle.clause.proofs.Truths.{at_none}
 use Rattle.search_law.specs.Law.{LeastLaw}
-use Rattle.search_law.specs.Models.{Makes, Lower, Least}
+use Rattle.search_law.specs.Models.{Lower}
 
 -- v and w differ at an atom, and at none below it
 pub record Parts (v w : ℕ) : Type 0 where

@@ -1,9 +1,9 @@
 -- The clause that literals are read into has only atoms of the session.
-use Rattle.std.proofs.Common.{◌≡◌, ℕ, suc, ◌+◌, ◌^◌, ◌<◌, ◌≤◌, min, Bool, true, false, cond, ◌||◌, eqb, ltb, ◌⊎◌, List, [], ◌∷◌, ℤ, pos, negsuc, nat_abs, Some, None, Ok, Err, Option, Result, sym, refl, ap, ◌∙◌, subst, ⊎_elim, arith, lit<}
-use Rattle.std.proofs.lemmas.Bool.{cases_lt, or_parts, or_cases, eqb-true, eqb-false, ltb-false, both_ways}
+use Rattle.std.proofs.Common.{◌≡◌, ℕ, ◌+◌, ◌^◌, ◌<◌, ◌≤◌, min, Bool, true, false, cond, eqb, ltb, List, [], ◌∷◌, ℤ, pos, negsuc, nat_abs, Some, None, Ok, Err, Option, Result, sym, refl, ◌∙◌, subst, ⊎_elim, arith, lit<}
+use Rattle.std.proofs.lemmas.Bool.{or_parts, or_cases, eqb-true, eqb-false, ltb-false, both_ways}
 use Rattle.clause.specs.declared.words.Clause.{Clause}
 use Rattle.clause.specs.Words.{at, with_atom}
-use Rattle.clause.specs.Clauses.{Literals, lits, has, top}
+use Rattle.clause.specs.Clauses.{Literals, lits, top}
 use Rattle.clause.specs.Reading.{reads, reads_on, outside, grown, clear}
 use Rattle.clause.specs.Refusals.{Told, refused}
 use Rattle.clause.proofs.Bits.{at_with, at_zero, with_fits}

@@ -1,5 +1,5 @@
 -- An opening without refusal begins with the invariant.
-use Rattle.std.proofs.Common.{◌≡◌, ℕ, zero, suc, ◌+◌, ◌*◌, ◌^◌, ◌<◌, ◌≤◌, min, Bool, true, false, cond, ◌||◌, eqb, ltb, ◌⊎◌, List, [], length, get_or, replicate, Some, None, Option, sym, refl, ap, ◌∙◌, subst, ⊎_elim, arith, lit<}
+use Rattle.std.proofs.Common.{◌≡◌, ℕ, zero, suc, ◌≤◌, Bool, true, false, cond, eqb, ltb, [], replicate, Some, None, Option, sym, refl, subst, ⊎_elim, arith, lit<}
 use Rattle.std.proofs.lemmas.List.{get_or-replicate, get_or_past, length-replicate}
 use Rattle.std.proofs.lemmas.Bool.{cases_lt, both_ways, or_parts, eqb-true, ltb-false}
 use Rattle.clause.specs.declared.refusal.Refusal.{Refusal}
@@ -9,7 +9,7 @@ use Rattle.clause.proofs.Bits.{at_zero}
 use Rattle.store.specs.Held.{Held, Kept, size}
 use Rattle.session.specs.declared.search.Phase.TheVariants.{Undecided}
 use Rattle.session.specs.Searching.{fresh, reason_in}
-use Rattle.session.specs.Calls.{due, opening}
+use Rattle.session.specs.Calls.{opening}
 use Rattle.search_law.specs.Law.{Inv, OpenLaw}
 
 no_reasons : (p : ℕ) → reason_in (replicate 64 None) p ≡ None

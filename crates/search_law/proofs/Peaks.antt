@@ -1,9 +1,9 @@
 -- The highest true atom, and what the invariant says of true atoms and false clauses.
-use Rattle.std.proofs.Common.{◌≡◌, ℕ, ◌+◌, ◌^◌, ◌<◌, ◌≤◌, min, Bool, true, false, not, ◌&&◌, ◌||◌, ◌⊎◌, List, sym, refl, ◌∙◌, ⊎_elim, arith}
+use Rattle.std.proofs.Common.{◌≡◌, ℕ, ◌+◌, ◌<◌, ◌≤◌, Bool, true, false, not, ◌&&◌, ◌||◌, List, ⊎_elim, arith}
 use Rattle.std.proofs.lemmas.Bool.{cases_lt, both_ways, or_left}
 use Rattle.clause.specs.declared.words.Clause.{Clause}
 use Rattle.clause.specs.Words.{at}
-use Rattle.clause.specs.Clauses.{Literals, lits, makes, top, lit, has}
+use Rattle.clause.specs.Clauses.{Literals, lits, makes, top, has}
 use Rattle.clause.proofs.Bits.{at_zero}
 use Rattle.clause.proofs.Truths.{makes_none, top_has, top_le}
 use Rattle.store.specs.Held.{Held, size, clause_at}

@@ -1,7 +1,7 @@
 -- The valuation and the reasons after a setting, and after atoms were cleared.
-use Rattle.std.proofs.Common.{◌≡◌, ℕ, zero, suc, ◌+◌, ◌-◌, ◌^◌, ◌<◌, ◌≤◌, min, Bool, true, false, ◌&&◌, ◌||◌, eqb, leb, ◌≢◌, ◌⊎◌, List, ◌++◌, length, get_or, take, set, replicate, Some, None, Option, sym, refl, ap, ◌∙◌, inl, inr, ⊎_elim, arith, length-append, length-set}
+use Rattle.std.proofs.Common.{◌≡◌, ℕ, zero, suc, ◌-◌, ◌<◌, ◌≤◌, true, eqb, leb, ◌≢◌, length, get_or, take, set, replicate, Some, None, Option, sym, refl, ap, ◌∙◌, ⊎_elim, arith, length-append, length-set}
 use Rattle.std.proofs.lemmas.List.{get_or-set_same, get_or-set_other, get_or_append_left, get_or-append_right, get_or-take, get_or-replicate, get_or_past, length-take-le, length-replicate}
-use Rattle.std.proofs.lemmas.Bool.{cases_eq, cases_lt, or_right, and_parts, eq-eqb, ne_eqb, leb-true, le-leb}
+use Rattle.std.proofs.lemmas.Bool.{cases_lt, or_right, and_parts, eq-eqb, ne_eqb, leb-true, le-leb}
 use Rattle.clause.specs.Words.{at, with_atom, upto}
 use Rattle.clause.proofs.Bits.{at_with, at_upto}
 use Rattle.session.specs.declared.search.Search.{Search}

@@ -1,6 +1,6 @@
 -- What joining a reason and a false clause gives.
-use Rattle.std.proofs.Common.{◌≡◌, ℕ, ◌^◌, ◌<◌, ◌≤◌, Bool, true, false, not, ◌&&◌, ◌||◌, T, eqb, ◌⊎◌, Some, None, Option, sym, refl, ap, ◌∙◌, inl, inr, ⊎_elim, arith, lit<, eqb→eq}
-use lib.Bits.{bit_and, bit_xor, and_lt, or_lt, xor_lt, and_le_l}
+use Rattle.std.proofs.Common.{◌≡◌, ℕ, ◌^◌, ◌<◌, ◌≤◌, Bool, true, false, not, ◌&&◌, ◌||◌, T, eqb, Some, sym, refl, ◌∙◌, ⊎_elim, arith, lit<, eqb→eq}
+use lib.Bits.{bit_and, and_lt, or_lt, xor_lt, and_le_l}
 use Rattle.std.proofs.lemmas.Bool.{cases_eq, cases_lt, or_left, or_right, or_from, both_ways, eq-eqb, ne_eqb}
 use Rattle.clause.specs.declared.words.Clause.{Clause}
 use Rattle.clause.specs.Words.{at, one, without}

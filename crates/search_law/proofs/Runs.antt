@@ -1,13 +1,13 @@
 -- A run keeps the invariant, says what holds, and an ample budget is not used up.
-use Rattle.std.proofs.Common.{◌≡◌, ℕ, zero, suc, ◌+◌, ◌-◌, ◌*◌, ◌^◌, ◌<◌, ◌≤◌, min, Bool, true, false, not, ◌&&◌, ◌||◌, ltb, ◌⊎◌, List, [], ◌∷◌, ◌++◌, Some, None, Ok, Err, Option, Result, sym, refl, ap, ◌∙◌, subst, inl, inr, ⊎_elim, arith}
+use Rattle.std.proofs.Common.{◌≡◌, ℕ, zero, suc, ◌+◌, ◌<◌, ◌≤◌, Bool, true, false, not, ◌&&◌, ◌||◌, ltb, List, ◌++◌, Some, None, Ok, Err, Option, Result, sym, refl, ap, ◌∙◌, subst, inl, inr, ⊎_elim, arith}
 use Rattle.std.proofs.lemmas.List.{append_assoc}
 use Rattle.std.proofs.lemmas.Bool.{cases_eq, cases_lt, cases_Bool, both_ways, ltb-true, ltb-false}
 use Rattle.clause.specs.declared.words.Clause.{Clause}
 use Rattle.clause.specs.Words.{at}
-use Rattle.clause.specs.Clauses.{Literals, lits, lit, makes, top}
+use Rattle.clause.specs.Clauses.{Literals, lit}
 use Rattle.clause.specs.Refusals.{Told, refused}
 use Rattle.clause.proofs.Truths.{makes_not, above_top}
-use Rattle.store.specs.Held.{Held, Pick, size, clause_at, entry_at, least_from, number_of, least_false}
+use Rattle.store.specs.Held.{Held, Pick, size, entry_at, least_from, number_of}
 use Rattle.store.proofs.Leasts.{Law, First, least_law}
 use Rattle.session.specs.declared.report.Step.{Step}
 use Rattle.session.specs.declared.report.Step.TheVariants.{Setting, Derivation}
@@ -15,19 +15,19 @@ use Rattle.session.specs.declared.report.Tally.{Tally}
 use Rattle.session.specs.declared.search.Search.{Search}
 use Rattle.session.specs.declared.search.Phase.{Phase}
 use Rattle.session.specs.declared.search.Phase.TheVariants.{Unopened, Undecided, Satisfied, Refuted}
-use Rattle.session.specs.Reports.{Said, satisfiable, unsatisfiable, stopped, Ended, counted, more, none_made}
+use Rattle.session.specs.Reports.{satisfiable, stopped, Ended, counted, more, none_made}
 use Rattle.session.specs.Searching.{satisfied}
-use Rattle.session.specs.Steps.{After, after, ended, looks, goes_on, stepping, step_at, runs}
-use Rattle.session.specs.Calls.{allowed, run_in, run, show_in, shown}
+use Rattle.session.specs.Steps.{After, ended, looks, goes_on, stepping, step_at, runs}
+use Rattle.session.specs.Calls.{allowed, run_in, show_in}
 use Rattle.search_law.proofs.Counts.{exact}
 use Rattle.search_law.proofs.Entries.{first_top}
 use Rattle.search_law.proofs.Growth.{uncut, relabel}
 use Rattle.search_law.proofs.Least.{parts}
 use Rattle.search_law.proofs.Peaks.{peak_atoms}
 use Rattle.search_law.proofs.Resolve.{no_lit}
-use Rattle.search_law.proofs.Steps.{todo, left, Made, Fine, StepsFine, still, step_fine}
-use Rattle.search_law.specs.Law.{Inv, Reason, Onward, Right, Ending, Ran, RunLaw, ShowLaw, Exact, ample, Says, last_one}
-use Rattle.search_law.specs.Models.{Makes, Models, Lower, Least, peak}
+use Rattle.search_law.proofs.Steps.{todo, left, Made, Fine, still, step_fine}
+use Rattle.search_law.specs.Law.{Inv, Reason, Onward, Right, Ran, RunLaw, ShowLaw, Exact, ample, Says, last_one}
+use Rattle.search_law.specs.Models.{Makes, Models, Least}
 
 -- a reason of p is false where p is false and all below is as it was
 reason_false : (c : Literals) (v w p : ℕ) → Reason v p c → ((a : ℕ) → a < p → at v a ≡ at w a) → at w p ≡ false → (a : ℕ) → a ≤ 64 → lit w c a ≡ false

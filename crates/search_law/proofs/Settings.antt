@@ -1,9 +1,9 @@
 -- A setting keeps the invariant, and raises the highest true atom.
-use Rattle.std.proofs.Common.{◌≡◌, ℕ, suc, ◌+◌, ◌-◌, ◌*◌, ◌^◌, ◌<◌, ◌≤◌, min, Bool, true, false, ◌⊎◌, List, Some, None, sym, refl, ap, ◌∙◌, subst, ⊎_elim, arith}
+use Rattle.std.proofs.Common.{◌≡◌, ℕ, suc, ◌-◌, ◌<◌, ◌≤◌, true, false, List, None, sym, refl, ◌∙◌, subst, ⊎_elim, arith}
 use Rattle.std.proofs.lemmas.Bool.{cases_eq, cases_Bool, both_ways}
 use Rattle.clause.specs.declared.words.Clause.{Clause}
 use Rattle.clause.specs.Words.{at, with_atom}
-use Rattle.clause.specs.Clauses.{Literals, lits, makes, top, lit}
+use Rattle.clause.specs.Clauses.{Literals, lits, makes, top}
 use Rattle.clause.proofs.Bits.{with_fits}
 use Rattle.clause.proofs.Truths.{makes_none, makes_agree, top_bound}
 use Rattle.store.specs.Held.{Held, size, clause_at}
@@ -13,7 +13,7 @@ use Rattle.session.specs.declared.search.Phase.TheVariants.{Unopened, Undecided,
 use Rattle.session.specs.Searching.{reason_of, setting}
 use Rattle.search_law.proofs.Peaks.{peak_le, peak_most, plus_off, reason_moves, more_le, under}
 use Rattle.search_law.proofs.Reasons.{with_other, with_same, set_same, set_other, set_slots}
-use Rattle.search_law.specs.Law.{Inv, Reason, Reasoned, Says}
+use Rattle.search_law.specs.Law.{Inv, Reasoned, Says}
 use Rattle.search_law.specs.Models.{peak}
 
 -- what a phase says, where a held clause is false

@@ -1,14 +1,14 @@
 -- A step keeps the invariant, or is stopped for want of a place, and leaves less to do.
-use Rattle.std.proofs.Common.{◌≡◌, ℕ, suc, ◌+◌, ◌-◌, ◌*◌, ◌^◌, ◌<◌, ◌≤◌, min, Bool, true, false, cond, eqb, ◌⊎◌, List, [], ◌∷◌, ◌++◌, length, get_or, Some, None, Ok, Err, Option, Result, sym, refl, ap, ◌∙◌, subst, ⊎_elim, arith}
+use Rattle.std.proofs.Common.{◌≡◌, ℕ, suc, ◌+◌, ◌-◌, ◌*◌, ◌<◌, ◌≤◌, Bool, true, false, eqb, List, [], ◌∷◌, Ok, Err, Option, Result, sym, refl, ap, subst, arith}
 use Rattle.std.proofs.lemmas.List.{append-nil, length_push}
 use Rattle.std.proofs.lemmas.Bool.{eqb-true, eqb-false}
 use Rattle.clause.specs.declared.words.Clause.{Clause}
-use Rattle.clause.specs.Words.{at, upto}
-use Rattle.clause.specs.Clauses.{Literals, lits, makes, top, resolvent}
+use Rattle.clause.specs.Words.{at}
+use Rattle.clause.specs.Clauses.{lits, makes, top}
 use Rattle.clause.specs.Refusals.{Told, refused}
 use Rattle.clause.proofs.Truths.{empty_false, top_bound}
 use Rattle.store.specs.declared.entry.Entry.{Entry}
-use Rattle.store.specs.Held.{Held, size, blank, clause_at, entry_at, found, full, pushed, after_put}
+use Rattle.store.specs.Held.{Held, size, clause_at, entry_at, full, pushed}
 use Rattle.store.proofs.Meanings.{entry_there}
 use Rattle.session.specs.declared.report.Step.{Step}
 use Rattle.session.specs.declared.report.Step.TheVariants.{Setting, Derivation}
@@ -17,7 +17,7 @@ use Rattle.session.specs.declared.search.Phase.{Phase}
 use Rattle.session.specs.declared.search.Phase.TheVariants.{Unopened, Undecided, Satisfied, Refuted}
 use Rattle.session.specs.Reports.{counted, more}
 use Rattle.session.specs.Searching.{reason_of, setting, cleared, derived, refuted}
-use Rattle.session.specs.Steps.{After, after, putting, deriving_one, resolving, with_reason_entry, with_reason, acting, at_top, step, step_at}
+use Rattle.session.specs.Steps.{After, after, putting, deriving_one, resolving, with_reason_entry, with_reason, acting, at_top, step_at}
 use Rattle.search_law.proofs.Counts.{exact}
 use Rattle.search_law.proofs.Derivations.{reasoned, drawn, d, new, drawn_follows, drawn_ordinary, drawn_put}
 use Rattle.search_law.proofs.Growth.{uncut, cut_at, relabel, grow}
@@ -25,7 +25,7 @@ use Rattle.search_law.proofs.Peaks.{peak_atoms}
 use Rattle.search_law.proofs.Reasons.{keep_true}
 use Rattle.search_law.proofs.Settings.{set_keeps, set_rises, set_peak}
 use Rattle.search_law.specs.Law.{Inv, Onward, Says, last_one}
-use Rattle.search_law.specs.Models.{peak, Hopeless}
+use Rattle.search_law.specs.Models.{peak}
 
 -- the most steps that can follow
 abbrev pub todo : Held → Search → ℕ

@@ -1,16 +1,15 @@
 -- The entry that a step acts on.
-use Rattle.std.proofs.Common.{◌≡◌, ℕ, suc, ◌+◌, ◌<◌, ◌≤◌, Bool, true, false, List, get_or, Some, None, Option, sym, refl, ap, ◌∙◌, subst, arith}
-use Rattle.clause.specs.declared.words.Clause.{Clause}
+use Rattle.std.proofs.Common.{◌≡◌, ℕ, suc, ◌<◌, true, false, get_or, Some, None, Option, sym, ap, ◌∙◌, subst, arith}
 use Rattle.clause.specs.Words.{at, with_atom}
 use Rattle.clause.specs.Clauses.{lits, makes, top}
 use Rattle.store.specs.declared.entry.Entry.{Entry}
-use Rattle.store.specs.Held.{Held, Pick, size, blank, clause_at, entry_at, least_from, number_of, least_false}
-use Rattle.store.proofs.Leasts.{Law, First, least_law}
+use Rattle.store.specs.Held.{Held, Pick, size, blank, clause_at, entry_at, least_from, number_of}
+use Rattle.store.proofs.Leasts.{Law, least_law}
 use Rattle.store.proofs.Meanings.{entry_there}
 use Rattle.session.specs.declared.search.Search.{Search}
 use Rattle.search_law.proofs.Derivations.{derives}
 use Rattle.search_law.proofs.Settings.{set_rises, set_peak}
-use Rattle.search_law.specs.Law.{Inv, Acts, Derived, DeriveLaw, SettingLaw}
+use Rattle.search_law.specs.Law.{Acts, Derived, DeriveLaw, SettingLaw}
 use Rattle.search_law.specs.Models.{peak}
 
 record Target (h : Held) (v k : ℕ) (e : Entry) : Type 0 where

@@ -1,5 +1,5 @@
 -- What every call of a session keeps, and what its answers say of the accepted clauses.
-use Rattle.std.specs.Prelude.{◌≡◌, ℕ, zero, suc, ◌+◌, ◌-◌, ◌*◌, ◌^◌, ◌<◌, ◌≤◌, Bool, true, false, ◌⊎◌, List, [], ◌∷◌, ◌++◌, length, ℤ, Some, None, Ok, Err, Option, Result, ◌≢◌}
+use Rattle.std.specs.Prelude.{◌≡◌, ℕ, suc, ◌+◌, ◌-◌, ◌*◌, ◌^◌, ◌<◌, ◌≤◌, true, false, ◌⊎◌, List, [], ◌∷◌, ◌++◌, length, ℤ, Some, None, Ok, Err, Result, ◌≢◌}
 use Rattle.clause.specs.declared.words.Clause.{Clause}
 use Rattle.clause.specs.Words.{at, with_atom}
 use Rattle.clause.specs.Clauses.{Literals, lits, lit, makes, top, resolvent}
@@ -12,7 +12,6 @@ use Rattle.session.specs.declared.search.Phase.{Phase}
 use Rattle.session.specs.declared.search.Phase.TheVariants.{Unopened, Undecided, Satisfied, Refuted}
 use Rattle.session.specs.Reports.{Said, satisfiable, unsatisfiable, stopped, Ended, more}
 use Rattle.session.specs.Searching.{reason_of}
-use Rattle.session.specs.Steps.{After}
 use Rattle.session.specs.Calls.{due, opened, add, run, shown}
 use Rattle.search_law.specs.Models.{Makes, Models, Hopeless, Least, peak}
 

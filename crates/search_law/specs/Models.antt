@@ -1,8 +1,8 @@
 -- Valuations that make clauses true, and the least of them.
-use Rattle.std.specs.Prelude.{◌≡◌, ℕ, ◌^◌, ◌<◌, ◌≤◌, Bool, true, false, List, length, ◌≢◌, slice_index_or}
+use Rattle.std.specs.Prelude.{◌≡◌, ℕ, ◌^◌, ◌<◌, ◌≤◌, true, false, List, length, ◌≢◌, slice_index_or}
 use Rattle.clause.specs.declared.words.Clause.{Clause}
 use Rattle.clause.specs.Words.{at}
-use Rattle.clause.specs.Clauses.{Literals, lits, makes, top}
+use Rattle.clause.specs.Clauses.{lits, makes, top}
 use Rattle.clause.specs.Reading.{clear}
 use Rattle.store.specs.Held.{Held, size, clause_at}
 
