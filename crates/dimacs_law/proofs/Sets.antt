@@ -6,7 +6,7 @@ use Rattle.std.proofs.lemmas.Bool.Decides.{nat_tests}
 use Rattle.std.proofs.lemmas.Bool.{or_parts, or_left, or_right, both_ways, eqb-false, eq-eqb, ltb-false}
 use Rattle.clause.specs.declared.words.Clause.{Clause}
 use Rattle.clause.specs.Words.{at, with_atom}
-use Rattle.clause.specs.Clauses.{Literals, lits, has, top, clause_of, clause_if}
+use Rattle.clause.specs.Clauses.{Literals, lits, top, clause_of, clause_if}
 use Rattle.clause.specs.Reading.{clear, outside, grown, reads, is_plus, is_minus, some_plus, some_minus, Lists}
 use Rattle.clause.proofs.Bits.{at_zero, at_none, at_and, at_with, same_to}
 use Rattle.clause.proofs.Truths.{clause_words, same_literals, apart_word, top_none, top_le}

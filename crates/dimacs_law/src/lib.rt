@@ -28,7 +28,7 @@ pub fn texts_stand() -> u8
 }
 
 pub fn examples_stand() -> u8
-    ensures { (Reads) × (Faults) }
+    ensures { Reads × Faults }
 {
     0
 }

@@ -1,4 +1,14 @@
 use Rattle.skip_store.proofs.skips.SkipStore.new.Goals as goal
 
 pub invariant_of-result : goal.invariant_of-result
-invariant_of-result c = let w = c.new-list.ensures.sound in (w.within, (w.fits, (w.room, (w.few, (w.tall, (w.apart, (∣ w.linked ∣₁, tt)))))))
+invariant_of-result c =
+    let w = c.new-list.ensures.sound in
+    record {
+      within = w.within;
+      fits = w.fits;
+      room = w.room;
+      few = w.few;
+      tall = w.tall;
+      apart = w.apart;
+      linked = ∣ w.linked ∣₁;
+    }

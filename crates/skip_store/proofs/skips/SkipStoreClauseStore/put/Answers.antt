@@ -5,4 +5,14 @@ pub put-requires : goal.put-requires
 put-requires c = sound c.args.self.now
 
 pub invariant_of-self : goal.invariant_of-self
-invariant_of-self c = let w = c.put.ensures.sound in (w.within, (w.fits, (w.room, (w.few, (w.tall, (w.apart, (∣ w.linked ∣₁, tt)))))))
+invariant_of-self c =
+    let w = c.put.ensures.sound in
+    record {
+      within = w.within;
+      fits = w.fits;
+      room = w.room;
+      few = w.few;
+      tall = w.tall;
+      apart = w.apart;
+      linked = ∣ w.linked ∣₁;
+    }
