@@ -16,6 +16,7 @@ import sys
 MADE = ("Answers.antt", "Invariants.antt", "Choices.antt", "Proof.antt")
 PART = r"[A-Za-z0-9_'\u2032\u2080-\u2089+-]+"
 DEFINES = re.compile(r"(?m)^[ \t]*((?:abbrev |unfoldable |pub |record |data |opaque )*)(" + PART + r")[ \t]*(?:\{[^}\n]*\} )?:(?![:=])(.*)$")
+RECORD = re.compile(r"(?m)^[ \t]*(?:pub )?record (" + PART + r") [({]")
 IMPORT = re.compile(r"(?m)^[ \t]*(?:pub )?(?:ghost )?use ([^;{\n]+)\.\{([^}]*)\}")
 TOKEN = re.compile(r"[^\W\d][\w'\u2032\u2080-\u2089]*(?:[-+\u2192][\w'\u2032\u2080-\u2089]+)*")
 
@@ -46,6 +47,8 @@ def defined(root):
             made = os.path.basename(path) in MADE and re.match(r"\s*(goal|given|need)\.", m.group(3))
             if not made:
                 names.setdefault(m.group(2), set()).add(path)
+        for m in RECORD.finditer(text):
+            names.setdefault(m.group(1), set()).add(path)
     return names
 
 

@@ -46,7 +46,7 @@ impl<'a, R: Record> Row<'a, R> {
         ensures places { result.places ≡ min (length slots.old) most }
         ensures same { result.slots.now ≡ slots.old }
         ensures lender { result.slots.ghost_name ≡ slots.entry.ghost_name }
-        ensures sound { Sound key result.slots.now result.size result.places }
+        ensures sound { Sound R.key result.slots.now result.size result.places }
     {
         let places = lesser(slots.len(), most);
         Row {
@@ -102,7 +102,7 @@ impl<'a, R: Record> Row<'a, R> {
     // How many records come before `x`: the position of the first that does not.
     pub fn seat(&self, x: &R) -> usize
         ensures within { result ≤ used self.now.slots.now self.now.size self.now.places }
-        ensures seat { Sound key self.now.slots.now self.now.size self.now.places → Seat key self.now.slots.now self.now.size (key x.now) result }
+        ensures seat { Sound R.key self.now.slots.now self.now.size self.now.places → Seat R.key self.now.slots.now self.now.size (R.key x.now) result }
     {
         seat(self.slots, self.used(), x)
     }
@@ -110,7 +110,7 @@ impl<'a, R: Record> Row<'a, R> {
     // The position of the record that `x` equals in the order.
     pub fn find(&self, x: &R) -> Option<usize>
         ensures within { MatchOption result Unit (λ i. i < used self.now.slots.now self.now.size self.now.places) }
-        ensures finds { Sound key self.now.slots.now self.now.size self.now.places → MatchOption result (Lacks key self.now.slots.now self.now.size (key x.now)) (λ i. Holds key self.now.slots.now self.now.size (key x.now) i) }
+        ensures finds { Sound R.key self.now.slots.now self.now.size self.now.places → MatchOption result (Lacks R.key self.now.slots.now self.now.size (R.key x.now)) (λ i. Holds R.key self.now.slots.now self.now.size (R.key x.now) i) }
     {
         locate(self.slots, self.used(), x).ok()
     }
@@ -122,8 +122,8 @@ impl<'a, R: Record> Row<'a, R> {
         ensures places { self.new.places ≡ self.old.places }
         ensures beyond { drop self.old.places self.new.slots.now ≡ drop self.old.places self.old.slots.now }
         ensures lender { self.new.slots.ghost_name ≡ self.old.slots.ghost_name }
-        ensures adds { Sound key self.old.slots.now self.old.size self.old.places → Adds key self.old.slots.now self.old.size self.old.places x result self.new.slots.now self.new.size }
-        ensures sound { Sound key self.old.slots.now self.old.size self.old.places → Sound key self.new.slots.now self.new.size self.new.places }
+        ensures adds { Sound R.key self.old.slots.now self.old.size self.old.places → Adds R.key self.old.slots.now self.old.size self.old.places x result self.new.slots.now self.new.size }
+        ensures sound { Sound R.key self.old.slots.now self.old.size self.old.places → Sound R.key self.new.slots.now self.new.size self.new.places }
     {
         let used = self.used();
         let room = self.room();
@@ -147,7 +147,7 @@ fn read<R: Record>(slots: &[R], size: usize, i: usize) -> Option<R>
 fn seat<R: Record>(slots: &[R], size: usize, x: &R) -> usize
     requires { size ≤ length slots.now }
     ensures within { result ≤ size }
-    ensures seat { Ascending key slots.now size → Seat key slots.now size (key x.now) result }
+    ensures seat { Ascending R.key slots.now size → Seat R.key slots.now size (R.key x.now) result }
 {
     let mut low = 0;
     let mut high = size;
@@ -165,7 +165,7 @@ fn seat<R: Record>(slots: &[R], size: usize, x: &R) -> usize
 fn locate<R: Record>(slots: &[R], size: usize, x: &R) -> Result<usize, usize>
     requires { size ≤ length slots.now }
     ensures inside { Inside size result }
-    ensures located { Ascending key slots.now size → Located key slots.now size (key x.now) result }
+    ensures located { Ascending R.key slots.now size → Located R.key slots.now size (R.key x.now) result }
 {
     let i = seat(slots, size, x);
     if i == size {
@@ -191,7 +191,7 @@ fn add<R: Record>(slots: &mut [R], size: usize, room: usize, x: R) -> Added
     requires within { size ≤ room }
     requires fits { room ≤ length slots.old }
     ensures alters { Alters slots.old size room x result slots.new }
-    ensures decides { Ascending key slots.old size → Decides key slots.old size (key x) result }
+    ensures decides { Ascending R.key slots.old size → Decides R.key slots.old size (R.key x) result }
 {
     match locate(slots, size, &x) {
         Ok(i) => Added::Held(i),

@@ -5,7 +5,7 @@ use Rattle.std.proofs.lemmas.Option.{slice_get-get_or, slice_get_past}
 use Rattle.store.specs.declared.entry.Entry.{Entry}
 use Rattle.store.specs.Held.{entry_at, blank}
 use Rattle.row_store.specs.declared.slot.Slot.{Slot}
-use Rattle.row_store.specs.Seats.{vacant, entry_of, sitting, arrivals, moved, Makes-way}
+use Rattle.row_store.specs.Seats.{vacant, entry_of, sitting, arrivals, moved, MakesWay}
 use Rattle.row_store.specs.Keeps.{length_arrivals, get_or_arrivals}
 
 -- entry k, from 1
@@ -49,7 +49,7 @@ drop_same ss ts m e f =
     (λ i l. get_or-drop m ts i 0 ∙ f (m + i) (omega arith) ∙ sym (get_or-drop m ss i 0))
 
 pub made_way : (ss us : List ℕ) (n i k : ℕ) → length us ≡ length ss → n < length ss → n ≤ k → k ≤ n
-    → ((j : ℕ) → j < k → get_or us j 0 ≡ moved i (get_or ss j 0)) → ((j : ℕ) → k ≤ j → get_or us j 0 ≡ get_or ss j 0) → Makes-way ss n i (set us n i)
+    → ((j : ℕ) → j < k → get_or us j 0 ≡ moved i (get_or ss j 0)) → ((j : ℕ) → k ≤ j → get_or us j 0 ≡ get_or ss j 0) → MakesWay ss n i (set us n i)
 made_way ss us n i k e l a b f g = record {
   same_length = length-set us n i ∙ e;
   others = λ j h. get_or-set_other us n j i 0 (λ q. absurd (omega arith)) ∙ f j (omega arith);
@@ -58,7 +58,7 @@ made_way ss us n i k e l a b f g = record {
 }
 
 -- what lies past the seats in use stays
-pub seats_beyond : (ss ts : List ℕ) (n i p : ℕ) → Makes-way ss n i ts → n < p → drop p ts ≡ drop p ss
+pub seats_beyond : (ss ts : List ℕ) (n i p : ℕ) → MakesWay ss n i ts → n < p → drop p ts ≡ drop p ss
 seats_beyond ss ts n i p w l =
     let e : n + 1 + (p - (n + 1)) ≡ p = omega arith in
     ap (λ k. drop k ts) (sym e) ∙ sym (drop-drop (p - (n + 1)) (n + 1) ts) ∙ ap (drop (p - (n + 1))) w.beyond ∙ drop-drop (p - (n + 1)) (n + 1) ss ∙ ap (λ k. drop k ss) e

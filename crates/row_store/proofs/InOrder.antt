@@ -12,7 +12,7 @@ use Rattle.row.specs.Order.{Sound, Lacks, Holds, seated, used}
 use Rattle.row.proofs.Additions.{used_all}
 use Rattle.row.proofs.Seats.{below_seat, at_seat, above_seat, came}
 use Rattle.row_store.specs.declared.slot.Slot.{Slot}
-use Rattle.row_store.specs.Seats.{vacant, Words, record_of, entry_of, place, sitting, arrivals, held_of, Ordered, moved, Makes-way, AllTrue, FirstFalse}
+use Rattle.row_store.specs.Seats.{vacant, Words, record_of, entry_of, place, sitting, arrivals, held_of, Ordered, moved, MakesWay, AllTrue, FirstFalse}
 use Rattle.row_store.specs.Keeps.{length_arrivals, clause_at_lem, rank_at, seats_apart, places_apart}
 use Rattle.store.proofs.Finds.{find_none, find_from_lem}
 use Rattle.store.proofs.Leasts.{least_none, least_is}
@@ -130,7 +130,7 @@ module _ (xs : List Slot) (ss : List ℕ) (n p : ℕ) (o : Ordered xs ss n p) wh
 
   -- ---- one record more, x with the next number, put in at its seat i
 
-  module _ (ts : List ℕ) (i : ℕ) (x : Slot) (b : i ≤ n) (h : n < p) (num : x.number ≡ n + 1) (w : Makes-way ss n i ts) where
+  module _ (ts : List ℕ) (i : ℕ) (x : Slot) (b : i ≤ n) (h : n < p) (num : x.number ≡ n + 1) (w : MakesWay ss n i ts) where
     fit : n < length xs
     fit = omega (arith, o.fits)
 

@@ -94,7 +94,7 @@ abbrev pub moved : ℕ → ℕ → ℕ
 moved i s = cond (nat_le i s) (s + 1) s
 
 -- the n seats of ss once a record has been put in at i, whose own seat comes last
-pub record Makes-way (ss : List ℕ) (n i : ℕ) (ts : List ℕ) : Type 0 where
+pub record MakesWay (ss : List ℕ) (n i : ℕ) (ts : List ℕ) : Type 0 where
   pub same_length : length ts ≡ length ss
   pub others : (k : ℕ) → k < n → slice_index ts k ≡ moved i (slice_index ss k)
   pub own : get_or ts n 0 ≡ i

@@ -1,5 +1,5 @@
 ghost use Rattle.std.specs.Prelude.{◌≡◌, ◌<◌, length, slice_index};
-ghost use Rattle.row_store.specs.Seats.{Seated, Makes-way, moved};
+ghost use Rattle.row_store.specs.Seats.{Seated, MakesWay, moved};
 
 // The seats of the entries: the entry with index k, from 0, has its record at the position `seats[k]`.
 #[derive(Drop)]
@@ -27,7 +27,7 @@ impl<'a> Bench<'a> {
         requires room { size < length self.old.seats.now }
         requires few { size < 16384 }
         requires seated { Seated self.old.seats.now size }
-        ensures way { Makes-way self.old.seats.now size at self.new.seats.now }
+        ensures way { MakesWay self.old.seats.now size at self.new.seats.now }
         ensures lender { self.new.seats.ghost_name ≡ self.old.seats.ghost_name }
     {
         make_way(self.seats, size, at);
@@ -38,7 +38,7 @@ fn make_way(seats: &mut [u16], size: usize, at: u16)
     requires room { size < length seats.old }
     requires few { size < 16384 }
     requires seated { Seated seats.old size }
-    ensures { Makes-way seats.old size at seats.new }
+    ensures { MakesWay seats.old size at seats.new }
 {
     for k in 0..size {
         seats[k] = moved(seats[k], at);

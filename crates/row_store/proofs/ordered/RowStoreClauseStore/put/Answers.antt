@@ -1,13 +1,13 @@
 use Rattle.std.proofs.Common.{◌≡◌, ℕ, ◌+◌, List, Ok, refl, ap, ◌∙◌, subst, arith}
-use Rattle.row_store.specs.Seats.{record_of, Makes-way}
+use Rattle.row_store.specs.Seats.{record_of, MakesWay}
 use Rattle.row_store.proofs.Arrivals.{seats_beyond}
 use Rattle.row_store.proofs.InOrder.{sound, found_read, found_lacks, put_held, put_refused, same_records, ordered_put, answers_new, after_new}
 use Rattle.row_store.proofs.Stores.{ordered}
 use Rattle.row_store.proofs.ordered.RowStoreClauseStore.put.Goals as goal
 
 -- the seats after a new record, over the count that the row had
-way : (ss ts : List ℕ) (k n i : ℕ) → k ≡ n → Makes-way ss k i ts → Makes-way ss n i ts
-way ss ts k n i e w = subst (λ j. Makes-way ss j i ts) e w
+way : (ss ts : List ℕ) (k n i : ℕ) → k ≡ n → MakesWay ss k i ts → MakesWay ss n i ts
+way ss ts k n i e w = subst (λ j. MakesWay ss j i ts) e w
 
 pub invariant_of-self-in-New : goal.invariant_of-self-in-New
 invariant_of-self-in-New c =
@@ -17,7 +17,7 @@ invariant_of-self-in-New c =
     let x = record_of c.args.entry k in
     let w = ordered_put _ _ _ _ o c.make_way.new.self.seats.now c.in-New.i x a.1.within a.2 (omega arith) (way _ _ _ _ _ c.size-size.ensures c.make_way.ensures.way) c.args.entry k (refl {a = x}) a.0
     c.enter.new.row.slots.now c.enter.new.row.size c.enter.new.row.places a.3 a.4 c.in-New.ensures.enters.places (c.in-New.ensures.enters.sound (sound _ _ _ _ o)) in
-    (w.within, (w.fits, (w.benches, (w.few, (w.rising, (w.seated, (w.named, (w.counted, (w.returned, tt)))))))))
+    record { within = w.within; fits = w.fits; benches = w.benches; few = w.few; rising = w.rising; seated = w.seated; named = w.named; counted = w.counted; returned = w.returned }
 
 pub returns-in-Held : goal.returns-in-Held
 returns-in-Held c =
