@@ -1,5 +1,5 @@
 -- What the answer call prints for a text.
-use Rattle.std.specs.Prelude.{ℕ, ◌+◌, ◌*◌, ◌/◌, Bool, true, false, cond, List, [], ◌∷◌, ◌++◌, length, Ok, Err, codes, Result, ◌==◌, nat_lt}
+use Rattle.std.specs.Prelude.{ℕ, ◌+◌, ◌*◌, ◌/◌, cond, List, [], ◌++◌, length, Ok, Err, codes, Result, ◌==◌, nat_lt}
 use Rattle.clause.specs.Refusals.{Told, refused}
 use Rattle.dimacs.specs.Walk.{Parsed, parse}
 use Rattle.store.specs.Held.{Held}

@@ -1,4 +1,4 @@
-use Rattle.std.proofs.Common.{◌≡◌, sym, ap, ◌∙◌}
+use Rattle.std.proofs.Common.{sym, ap, ◌∙◌}
 use Rattle.row_store.specs.declared.ordered.RowStore.{RowStore}
 use Rattle.row_store.specs.Seats.{held_of}
 use Rattle.store.specs.Held.{Held}

@@ -1,7 +1,7 @@
-use Rattle.std.proofs.Common.{◌≡◌, ◌+◌, ◌/◌, ◌%◌, ◌^◌, ◌<◌, [], ◌∷◌, length, decimal, sym, ap, ◌∙◌, arith, rules}
+use Rattle.std.proofs.Common.{◌≡◌, ◌+◌, ◌/◌, ◌%◌, ◌<◌, [], ◌∷◌, length, decimal, sym, ap, ◌∙◌, arith}
 use Rattle.std.proofs.lemmas.Fmt.{decimal_digit, decimal_step}
 use Rattle.answer.specs.Printed.{wrote}
-use Rattle.answer.proofs.Wrote.{digit_length, step_length, length_wrote, wrote_twice}
+use Rattle.answer.proofs.Wrote.{digit_length, step_length, wrote_twice}
 use Rattle.answer.proofs.print.+put_number.Goals as goal
 
 pub put-requires : goal.put-requires

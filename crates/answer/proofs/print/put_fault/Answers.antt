@@ -1,6 +1,6 @@
 use Rattle.std.proofs.Common.{[], ◌∷◌, arith}
 use Rattle.answer.specs.Printed.{field}
-use Rattle.answer.proofs.Wrote.{field_length, first, more}
+use Rattle.answer.proofs.Wrote.{first, more}
 use Rattle.answer.proofs.print.put_fault.Goals as goal
 
 pub returns : goal.returns

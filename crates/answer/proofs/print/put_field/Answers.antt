@@ -1,4 +1,4 @@
-use Rattle.std.proofs.Common.{[], ◌∷◌, decimal, arith, rules}
+use Rattle.std.proofs.Common.{[], ◌∷◌, decimal, arith}
 use Rattle.answer.proofs.Wrote.{field_length, first, more}
 use Rattle.answer.proofs.print.put_field.Goals as goal
 

@@ -1,4 +1,4 @@
-use Rattle.std.proofs.Common.{ℕ, ◌+◌, List, ◌++◌, length, decimal, sym, ap, ◌∙◌, arith}
+use Rattle.std.proofs.Common.{ℕ, ◌+◌, List, ◌++◌, length, decimal, ap, ◌∙◌, arith}
 use Rattle.answer.specs.Printed.{wrote, mark_of}
 use Rattle.answer.proofs.Wrote.{short, first, more}
 use Rattle.answer.proofs.print.put_literal.Goals as goal

@@ -1,4 +1,4 @@
-use Rattle.std.proofs.Common.{◌≡◌, ℕ, suc, ◌+◌, ◌≤◌, Bool, List, ◌++◌, sym, refl, ap, ◌∙◌, subst, add-one, arith}
+use Rattle.std.proofs.Common.{◌≡◌, ℕ, ◌+◌, Bool, List, ◌++◌, subst, add-one, arith}
 use Rattle.clause.specs.Words.{at}
 use Rattle.answer.specs.Printed.{literals, literal_field}
 use Rattle.answer.proofs.Wrote.{Stands, none, more}

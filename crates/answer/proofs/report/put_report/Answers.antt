@@ -1,4 +1,4 @@
-use Rattle.std.proofs.Common.{◌≡◌, ℕ, ◌+◌, List, length, ap, ◌∙◌, zero-add, arith}
+use Rattle.std.proofs.Common.{ℕ, ◌+◌, List, length, ap, ◌∙◌, zero-add, arith}
 use Rattle.session.specs.Reports.{said}
 use Rattle.answer.specs.Answered.{status, valued, counted}
 use Rattle.answer.specs.Printed.{wrote}

@@ -1,4 +1,4 @@
-use Rattle.std.proofs.Common.{refl, arith}
+use Rattle.std.proofs.Common.{arith}
 use Rattle.answer.proofs.report.verdict.Goals as goal
 
 pub returns-in-Satisfiable : goal.returns-in-Satisfiable
