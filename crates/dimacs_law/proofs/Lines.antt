@@ -1,6 +1,6 @@
 -- What stands before the heading are comment lines and blanks.
 use Rattle.std.proofs.Common.{◌≡◌, ℕ, suc, ◌+◌, ◌<◌, true, false, eqb, ◌⊎◌, List, [], ◌∷◌, ◌++◌, length, sym, refl, ap, ◌∙◌, subst, inl, inr, ⊎_elim, append_assoc, append-nil, add-zero, suc-add, zero-add, arith, length-append}
-use Rattle.std.specs.List.{flat_map, AllByRecursion as All}
+use Rattle.std.specs.List.{flat_map, AllByRecursion}
 use Rattle.std.proofs.ByRecursion.{All-push}
 use Rattle.std.proofs.lemmas.Bool.{cases_Bool, cond-true, cond-false, eqb-true, both_ways}
 use Rattle.std.proofs.lemmas.Bool.Decides.{nat_tests}
@@ -11,7 +11,7 @@ use Rattle.dimacs_law.specs.Lines.{line, Bare, Comment, Skipped, Begins, Opens, 
 
 -- ---- over the bytes of a line
 
-over_comment : (l bs : List ℕ) → All (λ b. in_line b ≡ true) l → preface comment (l ++ bs) ≡ length l + preface comment bs
+over_comment : (l bs : List ℕ) → AllByRecursion (λ b. in_line b ≡ true) l → preface comment (l ++ bs) ≡ length l + preface comment bs
 over_comment [] bs h = sym (zero-add _)
 over_comment (b ∷ l) bs h =
     let t = h.0 in
@@ -73,7 +73,7 @@ line_first l j bs = append_assoc (line l) j bs ∙ append_assoc l (10 ∷ []) (j
 line_length : (l j : List ℕ) → length (line l ++ j) ≡ suc (length l + length j)
 line_length l j = length-append (line l) j ∙ (let e = length-append l (10 ∷ []) in let g : length (line l) + length j ≡ suc (length l + length j) = omega (arith, e) in g)
 
-pub skip_lines : (ls : List (List ℕ)) (bs : List ℕ) → All Skipped ls → preface start (flat_map line ls ++ bs) ≡ length (flat_map line ls) + preface start bs
+pub skip_lines : (ls : List (List ℕ)) (bs : List ℕ) → AllByRecursion Skipped ls → preface start (flat_map line ls ++ bs) ≡ length (flat_map line ls) + preface start bs
 skip_lines [] bs h = sym (zero-add _)
 skip_lines (l ∷ ls) bs h =
     let j : List ℕ = flat_map line ls in

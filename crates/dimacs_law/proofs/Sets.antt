@@ -1,7 +1,7 @@
 -- Literals read one after the other make the set of them.
 use Rattle.std.proofs.Common.{◌≡◌, ℕ, zero, suc, ◌+◌, ◌^◌, ◌<◌, ◌≤◌, min, Bool, true, false, ◌&&◌, ◌||◌, T, eqb, ltb, List, [], ◌∷◌, length, ℤ, pos, negsuc, nat_abs, Some, Ok, sym, refl, ap, ◌∙◌, mod-eq_of_lt, pow-suc, arith, lit<, eqb→eq, pow_mono}
 use lib.Bits.{bit_and}
-use Rattle.std.specs.List.{AllByRecursion as All}
+use Rattle.std.specs.List.{AllByRecursion}
 use Rattle.std.proofs.lemmas.Bool.Decides.{nat_tests}
 use Rattle.std.proofs.lemmas.Bool.{or_parts, or_left, or_right, both_ways, eqb-false, eq-eqb, ltb-false}
 use Rattle.clause.specs.declared.words.Clause.{Clause}
@@ -36,7 +36,7 @@ in_range n l e = let h : (0 < nat_abs l) × (nat_abs l ≤ n) = go (nat_abs l) e
         some : (a : ℕ) → (a ≡ 0 → ⊥) → 0 < a
         some a h = omega arith
 
-becomes_range : (n : ℕ) (c d : Clause) (ls : List ℤ) → Becomes n c ls d → All (InRange n) ls
+becomes_range : (n : ℕ) (c d : Clause) (ls : List ℤ) → Becomes n c ls d → AllByRecursion (InRange n) ls
 becomes_range n c d [] b = tt
 becomes_range n c d (l ∷ ls) (f, (x, g, b)) = (in_range n l f, becomes_range n x d ls b)
 
@@ -131,7 +131,7 @@ or_assoc false y z = refl
 pub not_outside : (n a : ℕ) → n ≤ 64 → 0 < a → a ≤ n → outside n a ≡ false
 not_outside n a h k m = grind (arith, nat_tests)
 
-becomes_from : (n : ℕ) (ls : List ℤ) (c d : Clause) → n ≤ 64 → All (InRange n) ls → Joins c d ls → Becomes n c ls d
+becomes_from : (n : ℕ) (ls : List ℤ) (c d : Clause) → n ≤ 64 → AllByRecursion (InRange n) ls → Joins c d ls → Becomes n c ls d
 unfolding some_plus some_minus
 becomes_from n [] c d h r j =
     let none : (w : ℕ) → at w 0 ≡ false = λ w. at_none w 0 refl in

@@ -1,6 +1,6 @@
 -- A text is accepted exactly where it is comment lines and then words that spell a heading and its clauses.
 use Rattle.std.proofs.Common.{◌≡◌, ℕ, suc, ◌+◌, ◌<◌, ◌≤◌, false, eqb, ltb, List, [], ◌∷◌, ◌++◌, length, drop, pos, Some, None, Ok, codes, Option, Result, sym, refl, ap, ◌∙◌, subst, ⊎_elim, append_assoc, arith, length-append}
-use Rattle.std.specs.List.{flat_map, AllByRecursion as All}
+use Rattle.std.specs.List.{flat_map, AllByRecursion}
 use Rattle.std.proofs.ByRecursion.{All-weaker}
 use Rattle.std.proofs.lemmas.List.{drop_at, drop_all}
 use Rattle.std.proofs.lemmas.Bool.{cases_Bool, cond-true, cond-false, le-ltb}
@@ -107,7 +107,7 @@ over_gap (b ∷ gap) y h =
     let m : preface middle (b ∷ (gap ++ 112 ∷ y)) ≡ suc (length gap) = cond-true (blank b) _ _ h.0 ∙ ap suc next in
     (cond-false (eqb b 99) _ _ f ∙ m, m)
 
-heading_words : (bs : List ℕ) (lines : List (List ℕ)) (rest : List ℕ) (ws : List Piece) (tail : List (List ℕ)) → bs ≡ flat_map line lines ++ rest → All Skipped lines → Cut (length (flat_map line lines)) rest ws
+heading_words : (bs : List ℕ) (lines : List (List ℕ)) (rest : List ℕ) (ws : List Piece) (tail : List (List ℕ)) → bs ≡ flat_map line lines ++ rest → AllByRecursion Skipped lines → Cut (length (flat_map line lines)) rest ws
     → bytes ws ≡ codes "p" ∷ tail → after_preface bs ≡ ws
 heading_words bs lines rest [] tail e s c b = absurd (let z : ◌≡◌ {A = ℕ} 0 1 = cc in let f : ⊥ = omega arith in f)
 heading_words bs lines rest (w ∷ ws) tail e s (y, f, more) b =

@@ -1,14 +1,14 @@
 -- What the words of a text are, said without a way to find them.
 use Rattle.std.specs.Prelude.{◌≡◌, ℕ, ◌+◌, ◌<◌, true, false, List, [], ◌∷◌, ◌++◌, length}
-use Rattle.std.specs.List.{AllByRecursion as All}
+use Rattle.std.specs.List.{AllByRecursion}
 use Rattle.dimacs.specs.Runs.{blank}
 use Rattle.dimacs.specs.Words.{Piece, words}
 
 abbrev pub Blanks : List ℕ → Type 0
-Blanks bs = All (λ b. blank b ≡ true) bs
+Blanks bs = AllByRecursion (λ b. blank b ≡ true) bs
 
 abbrev pub Letters : List ℕ → Type 0
-Letters bs = All (λ b. blank b ≡ false) bs
+Letters bs = AllByRecursion (λ b. blank b ≡ false) bs
 
 -- a word ends at the text's end or at a blank
 abbrev pub Stops : List ℕ → Type 0

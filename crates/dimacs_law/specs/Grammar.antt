@@ -1,6 +1,6 @@
 -- When a text is accepted, and what it then writes, said without a way to read it.
 use Rattle.std.specs.Prelude.{◌≡◌, ℕ, ◌<◌, ◌≤◌, false, ◌&&◌, List, [], ◌∷◌, ◌++◌, map, length, ℤ, Ok, codes, decimal, unsigned_abs}
-use Rattle.std.specs.List.{flat_map, AllByRecursion as All}
+use Rattle.std.specs.List.{flat_map, AllByRecursion}
 use Rattle.std.specs.Fmt.{signed_decimal}
 use Rattle.clause.specs.declared.words.Clause.{Clause}
 use Rattle.clause.specs.Clauses.{lits}
@@ -25,7 +25,7 @@ InRange n l = (0 < unsigned_abs l) × (unsigned_abs l ≤ n)
 -- literals that make a clause: there is one, all are in range, and no atom stands in both signs; c is the set of them
 pub record Makes (atoms : ℕ) (ls : List ℤ) (c : Clause) : Type 0 where
   pub some : 0 < length ls
-  pub range : All (InRange atoms) ls
+  pub range : AllByRecursion (InRange atoms) ls
   pub apart : (a : ℕ) → 0 < a → some_plus a ls && some_minus a ls ≡ false
   pub set : Lists ls (lits c)
 
@@ -41,7 +41,7 @@ pub record Accepted (n : ℕ) (bs : List ℕ) (p : Parsed) : Type 0 where
   pub lines : List (List ℕ)
   pub rest : List ℕ
   pub whole : bs ≡ flat_map line lines ++ rest
-  pub skipped : All Skipped lines
+  pub skipped : AllByRecursion Skipped lines
   pub words : List Piece
   pub cut : Cut (length (flat_map line lines)) rest words
   pub literals : List (List ℤ)

@@ -1,6 +1,6 @@
 -- What stands before the heading of a text, said without a way to find it.
 use Rattle.std.specs.Prelude.{◌≡◌, ℕ, ◌+◌, ◌<◌, true, false, ◌⊎◌, List, [], ◌∷◌, ◌++◌, length, ◌==◌}
-use Rattle.std.specs.List.{flat_map, AllByRecursion as All}
+use Rattle.std.specs.List.{flat_map, AllByRecursion}
 use Rattle.dimacs.specs.Runs.{blank, in_line, indent}
 use Rattle.dimacs.specs.Words.{is_comment}
 use Rattle.dimacs.specs.Preface.{preface, start}
@@ -11,12 +11,12 @@ line l = l ++ 10 ∷ []
 
 -- the blanks of a line
 abbrev pub Bare : List ℕ → Type 0
-Bare l = All (λ b. indent b ≡ true) l
+Bare l = AllByRecursion (λ b. indent b ≡ true) l
 
 -- a line whose first byte is c
 pub record Comment (l : List ℕ) : Type 0 where
   pub first : is_comment l ≡ true
-  pub inside : All (λ b. in_line b ≡ true) l
+  pub inside : AllByRecursion (λ b. in_line b ≡ true) l
 
 -- a line that is not the heading's
 abbrev pub Skipped : List ℕ → Type 0
@@ -33,7 +33,7 @@ pub record Opens (bs : List ℕ) (k : ℕ) : Type 0 where
   pub gap : List ℕ
   pub rest : List ℕ
   pub whole : bs ≡ flat_map line lines ++ (gap ++ rest)
-  pub skipped : All Skipped lines
+  pub skipped : AllByRecursion Skipped lines
   pub bare : Bare gap
   pub begins : Begins gap rest
   pub place : k ≡ length (flat_map line lines) + length gap
@@ -43,7 +43,7 @@ pub record Unopened (bs : List ℕ) : Type 0 where
   pub lines : List (List ℕ)
   pub last : List ℕ
   pub whole : bs ≡ flat_map line lines ++ last
-  pub skipped : All Skipped lines
+  pub skipped : AllByRecursion Skipped lines
   pub end : Skipped last
 
 -- every text is one or the other, and what stands before its heading is as long as that says

@@ -1,6 +1,6 @@
 -- What is read where a number or a line was written, and elsewhere.
-use Rattle.std.proofs.Common.{◌≡◌, ℕ, zero, suc, ◌+◌, ◌-◌, ◌*◌, ◌/◌, ◌%◌, ◌^◌, ◌<◌, ◌≤◌, List, [], ◌∷◌, ◌++◌, length, get_or, take, drop, sym, refl, ap, ◌∙◌, subst, ap₂, append_assoc, add-zero, add_assoc, add-suc, mod-eq_of_lt, zero-lt-suc, mul_assoc, mul_comm, add-mul, pow-suc, zero-add, mul-one, arith, length-append}
-use native.Mathlib.Nat.{pow-zero, mod-one}
+use Rattle.std.proofs.Common.{◌≡◌, ℕ, zero, suc, ◌+◌, ◌-◌, ◌*◌, ◌/◌, ◌%◌, ◌^◌, ◌<◌, ◌≤◌, List, [], ◌∷◌, ◌++◌, length, get_or, take, drop, sym, refl, ap, ◌∙◌, subst, ap₂, append_assoc, add-zero, add_assoc, mod-eq_of_lt, mul_assoc, mul_comm, add-mul, pow-suc, zero-add, arith, length-append}
+use native.Mathlib.Nat.{mod-one}
 use lib.Arith.{mod-mul}
 use Rattle.std.proofs.lemmas.List.{get_or-take, get_or-drop, get_or_append_left, get_or-append_right, length-take-le, append-nil, take_at, drop_at}
 use Rattle.lines.specs.Bytes.{number_at, bytes_of, wrote}

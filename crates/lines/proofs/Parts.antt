@@ -1,5 +1,5 @@
 -- Laws of the bytes of numbers: a part of a slice, and one write after another.
-use Rattle.std.proofs.Common.{◌≡◌, ℕ, zero, suc, ◌+◌, ◌-◌, ◌*◌, ◌/◌, ◌%◌, ◌<◌, ◌≤◌, List, [], ◌∷◌, ◌++◌, length, get_or, take, drop, sym, refl, ap, ◌∙◌, ap₂, append_assoc, add-zero, add_assoc, div-one, arith, length-append, length-take}
+use Rattle.std.proofs.Common.{◌≡◌, ℕ, zero, suc, ◌+◌, ◌-◌, ◌*◌, ◌/◌, ◌%◌, ◌<◌, ◌≤◌, List, [], ◌∷◌, ◌++◌, length, get_or, take, drop, sym, refl, ap, ◌∙◌, ap₂, append_assoc, add-zero, add_assoc, div-one, arith, length-append}
 use Rattle.std.proofs.lemmas.List.{get_or-take, get_or-drop, take_at, drop_at, drop-drop, length-take-le}
 use borrow.Rule.Slice.PartMut.{put_mid}
 use Rattle.lines.specs.Bytes.{number_at, bytes_of, wrote}
@@ -36,9 +36,9 @@ put_put bs o p x y h e =
     ∙ ap (λ (z : List ℕ). take o bs ++ z) (sym (append_assoc x y (drop (o + length (x ++ y)) bs)))
 
 -- What the library's `to_be_bytes` answers, and what a write of it into a part leaves.
-pub put_mid : (bs : List ℕ) (o k : ℕ) (x : List ℕ) → length x ≡ k → put_mid o ((o + k) - o) bs x ≡ wrote bs o x
+pub put_mid_wrote : (bs : List ℕ) (o k : ℕ) (x : List ℕ) → length x ≡ k → put_mid o ((o + k) - o) bs x ≡ wrote bs o x
 unfolding wrote
-put_mid bs o k x e =
+put_mid_wrote bs o k x e =
     let n : (o + k) - o ≡ length x = omega arith in
     ap (λ (z : List ℕ). take o bs ++ (x ++ z)) (ap (λ (m : ℕ). drop m (drop o bs)) n ∙ drop-drop (length x) o bs)
 
@@ -73,7 +73,7 @@ line_part bs k h =
     }
 
 pub copied : (bs : List ℕ) (o k : ℕ) {x y : List ℕ} → x ≡ y → length y ≡ k → put_mid o ((o + k) - o) bs x ≡ wrote bs o y
-copied bs o k {x} {y} e l = ap (λ (z : List ℕ). put_mid o ((o + k) - o) bs z) e ∙ put_mid bs o k y l
+copied bs o k {x} {y} e l = ap (λ (z : List ℕ). put_mid o ((o + k) - o) bs z) e ∙ put_mid_wrote bs o k y l
 
 -- Four writes, one behind another, are one.
 pub put_four : (bs b1 b2 b3 b4 : List ℕ) (o : ℕ) (l : Line) → o + 24 ≤ length bs

@@ -1,5 +1,5 @@
 -- The step that a session made, found from what it keeps before and after.
-use Rattle.std.specs.Prelude.{◌≡◌, ℕ, zero, suc, ◌<◌, ◌≤◌, Bool, true, false, cond, not, ◌&&◌, length, Some, None, Option, nat_lt}
+use Rattle.std.specs.Prelude.{◌≡◌, ℕ, zero, suc, ◌<◌, ◌≤◌, false, cond, not, ◌&&◌, length, Some, None, Option, nat_lt}
 use Rattle.clause.specs.Words.{at}
 use Rattle.store.specs.declared.entry.Entry.{Entry}
 use Rattle.session.specs.declared.report.Tally.{Tally}

@@ -1,5 +1,5 @@
 -- What the calls on a session answer, and where they leave the session and its store.
-use Rattle.std.specs.Prelude.{ℕ, zero, suc, ◌+◌, ◌-◌, ◌^◌, min, Bool, true, false, cond, Ok, Err, Option, Result, ◌==◌}
+use Rattle.std.specs.Prelude.{ℕ, Bool, false, Ok, Err, Option, Result, ◌==◌}
 use Rattle.clause.specs.Refusals.{Told, told}
 use Rattle.store.specs.Held.{Held, size, entry_at}
 use Rattle.session.specs.declared.report.Report.{Report}

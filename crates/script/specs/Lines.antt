@@ -1,5 +1,5 @@
 -- The words of a line and the lines of a script.
-use Rattle.std.specs.Prelude.{ℕ, Bool, true, false, cond, List, [], ◌∷◌, ◌==◌}
+use Rattle.std.specs.Prelude.{ℕ, cond, List, [], ◌∷◌, ◌==◌}
 use Rattle.std.specs.List.{join_with_byte}
 
 -- the byte b before the first of the pieces

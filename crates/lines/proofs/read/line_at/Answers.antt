@@ -1,4 +1,4 @@
-use Rattle.std.proofs.Common.{◌≡◌, ◌≤◌, Bool, true, cond, leb, Some, None, Option, sym, ap, ◌∙◌, arith}
+use Rattle.std.proofs.Common.{leb, Some, None, Option, sym, ap, ◌∙◌}
 use Rattle.std.proofs.lemmas.Bool.{and_parts, leb-true, cond-true}
 use Rattle.lines.specs.declared.line.Line.{Line}
 use Rattle.lines.specs.Format.{line_at, reaches}

@@ -1,7 +1,7 @@
-use Rattle.std.proofs.Common.{◌≡◌, ℕ, ◌-◌, List, length, take, sym, ap, ◌∙◌}
+use Rattle.std.proofs.Common.{ℕ, ◌-◌, List, length, take, sym, ap, ◌∙◌}
 use Rattle.std.proofs.lemmas.List.{take_rest}
 use Rattle.lines.specs.Bytes.{number_at}
-use Rattle.lines.specs.Format.{tail, trailer_of}
+use Rattle.lines.specs.Format.{trailer_of}
 use Rattle.lines.proofs.read.trailer.Goals as goal
 
 pub returns-then-half-ne0 : goal.returns-then-half-ne0

@@ -1,4 +1,4 @@
-use Rattle.std.proofs.Common.{sym, ap, ◌∙◌, arith}
+use Rattle.std.proofs.Common.{sym, ◌∙◌, arith}
 use Rattle.script.specs.Numbers.{digits}
 use Rattle.script.proofs.Capped.{digit_more, no_digit, all_read}
 use Rattle.script.proofs.number.digits.Goals as goal

@@ -8,5 +8,5 @@ returns c = c.number.ensures ∙ alone_one (λ x. x.now) c.args.rest.now _ (sear
 pub returns-in_default : goal.returns-in_default
 returns-in_default c = alone_none (λ x. x.now) c.args.rest.now (λ e. search rules)
 
-pub returns-in_default·2 : goal.returns-in_default·2
-returns-in_default·2 c = alone_none (λ x. x.now) c.args.rest.now (λ e. search rules)
+pub returns-in_default-2 : goal.returns-in_default-2
+returns-in_default-2 c = alone_none (λ x. x.now) c.args.rest.now (λ e. search rules)

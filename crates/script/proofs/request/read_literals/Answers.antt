@@ -1,5 +1,5 @@
-use Rattle.std.proofs.Common.{◌≡◌, [], ◌∷◌, ◌++◌, drop, vec_items, sym, refl, ap, ◌∙◌, rules}
-use Rattle.script.proofs.Gathered.{onto, none_yet, one_more, no_literal, no_more}
+use Rattle.std.proofs.Common.{◌≡◌, [], ◌∷◌, ◌++◌, vec_items, sym, ◌∙◌, rules}
+use Rattle.script.proofs.Gathered.{none_yet, one_more, no_literal, no_more}
 use Rattle.script.proofs.request.read_literals.Goals as goal
 
 pub loop-w-init : goal.loop-w-init

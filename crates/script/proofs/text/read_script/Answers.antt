@@ -7,9 +7,9 @@ use Rattle.script.proofs.text.read_script.Goals as goal
 
 pub loop-line-init : goal.loop-line-init
 loop-line-init c =
-    let is = c.into-iter-line-iterator.ensures.into-iter-gives in
+    let is = c.into_iter-line-iterator.ensures.into_iter_gives in
     let split = c.split-line-items.ensures in
-    none_yet c.args.script.now _ c.into-iter-line-iterator.result c.new-lines.ensures.items (ap split_pattern is ∙ split.pattern) (ap split_text is ∙ split.text) (ap split_has_more is ∙ split.Has-more)
+    none_yet c.args.script.now _ c.into_iter-line-iterator.result c.new-lines.ensures.items (ap split_pattern is ∙ split.pattern) (ap split_text is ∙ split.text) (ap split_has_more is ∙ split.has_more)
 
 pub loop-line-preserved-in_default : goal.loop-line-preserved-in_default
 loop-line-preserved-in_default c =

@@ -1,4 +1,4 @@
-use Rattle.std.proofs.Common.{sym, ap, ◌∙◌, rules}
+use Rattle.std.proofs.Common.{sym, ap, ◌∙◌}
 use Rattle.std.proofs.lemmas.Bool.{eqb-true, eqb-false}
 use Rattle.std.specs.Str.Iter.{split_text, split_has_more, split_pattern}
 use Rattle.script.proofs.Cuts.{none_yet, skipped, taken, no_more}
@@ -6,9 +6,9 @@ use Rattle.script.proofs.text.words.Goals as goal
 
 pub loop-piece-init : goal.loop-piece-init
 loop-piece-init c =
-    let is = c.into-iter-piece-iterator.ensures.into-iter-gives in
+    let is = c.into_iter-piece-iterator.ensures.into_iter_gives in
     let split = c.split-piece-items.ensures in
-    none_yet c.args.line.now _ c.into-iter-piece-iterator.result c.new-words.ensures.items (ap split_pattern is ∙ split.pattern) (ap split_text is ∙ split.text) (ap split_has_more is ∙ split.Has-more)
+    none_yet c.args.line.now _ c.into_iter-piece-iterator.result c.new-words.ensures.items (ap split_pattern is ∙ split.pattern) (ap split_text is ∙ split.text) (ap split_has_more is ∙ split.has_more)
 
 pub loop-piece-preserved-then-is_empty : goal.loop-piece-preserved-then-is_empty
 loop-piece-preserved-then-is_empty c =
