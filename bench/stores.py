@@ -1,7 +1,7 @@
 #!/usr/bin/env python3
 """How find, put and least false of the two clause stores grow with their size, beside a plain scan.
 
-    rt check store_bench && python3 bench/stores.py
+    tools/build store_bench && python3 bench/stores.py
 
 Counts instructions with valgrind's callgrind, less those of the same run with the work left out, and measures
 nanoseconds in the same program without valgrind. Prints Markdown tables. --quick leaves out the instructions.
@@ -100,7 +100,7 @@ def table(title, results):
 
 def main():
     if not os.path.exists(PROGRAM):
-        sys.exit("no program: run rt check store_bench first")
+        sys.exit("no program: run tools/build store_bench first")
     if "--quick" not in sys.argv[1:]:
         table("Instructions an operation, in brackets by those of the plain scan:", counted())
     table("Nanoseconds an operation, in brackets by those of the plain scan:", timed())

@@ -1,6 +1,6 @@
 /* The answer call of Yurqobal for hosts written in C.
  *
- * Build the static library with `rt staticlib answer` (target/staticlib/libanswer.a) and link with it; nothing else is needed.
+ * Build the static library with `tools/build library` (target/staticlib/libanswer.a) and link with it; nothing else is needed.
  *
  *   int64_t n = yurqobal_answer(text, text_length, out, out_length);
  *

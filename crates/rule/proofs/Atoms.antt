@@ -1,6 +1,5 @@
 -- Words by their atoms: words with the same atoms are one, and a word with a single one is that of one atom.
-use Rattle.std.proofs.Common.{◌≡◌, ℕ, zero, suc, ◌+◌, ◌*◌, ◌/◌, ◌%◌, ◌^◌, ◌<◌, ◌≤◌, Bool, true, false, eqb, ◌⊎◌, sym, refl, ap, ◌∙◌, ap₂, inl, inr, add-zero, mod-lt, zero-lt-suc, one-mul, pow-suc, div-add-mod', div-one, arith}
-use native.Mathlib.Nat.{zero-div}
+use Rattle.std.proofs.Common.{◌≡◌, ℕ, zero, suc, ◌+◌, ◌*◌, ◌/◌, ◌%◌, ◌^◌, ◌<◌, true, eqb, sym, refl, ap, ◌∙◌, ap₂, add-zero, mod-lt, zero-lt-suc, one-mul, pow-suc, div-add-mod', div-one, arith}
 use lib.Arith.{bin_ind}
 use lib.Bits.{bit_and}
 use lib.Count.{ones, ones_step, ones_cat}

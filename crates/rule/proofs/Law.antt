@@ -1,8 +1,8 @@
 -- The tests on words decide the resolution rule.
-use Rattle.std.proofs.Common.{◌≡◌, ℕ, zero, suc, ◌<◌, ◌≤◌, Bool, true, false, cond, not, ◌&&◌, ◌||◌, T, eqb, ltb, leb, ◌⊎◌, List, Some, None, Decides, Option, sym, refl, ap, ◌∙◌, subst, inl, inr, ⊎_elim, arith, eqb→eq}
+use Rattle.std.proofs.Common.{◌≡◌, ℕ, zero, suc, ◌<◌, ◌≤◌, Bool, true, false, cond, not, ◌&&◌, ◌||◌, T, eqb, ltb, leb, ◌⊎◌, List, Some, None, Decides, Option, sym, refl, ap, ◌∙◌, inl, inr, ⊎_elim, arith, eqb→eq}
 use lib.Bits.{bit_and, bit_or, bit_xor}
 use lib.Count.{ones}
-use Rattle.std.proofs.lemmas.Bool.{and_parts, cases_Bool, cases_eq, cases_lt, both_ways, eq-eqb, ne_eqb, eqb-true, eqb-false, leb-true, le-leb, ltb-true, lt-ltb}
+use Rattle.std.proofs.lemmas.Bool.{and_parts, cases_Bool, cases_eq, cases_lt, both_ways, eq-eqb, ne_eqb, eqb-true, leb-true, le-leb, ltb-true, lt-ltb}
 use Rattle.std.proofs.lemmas.Bool.Decides.{nat_tests}
 use Rattle.clause.specs.declared.words.Clause.{Clause}
 use Rattle.clause.specs.Words.{at}
@@ -10,9 +10,9 @@ use Rattle.clause.specs.Clauses.{Literals, Resolves, Shares, lits, top, clause_o
 use Rattle.clause.proofs.Bits.{at_and, at_or, at_xor, at_none}
 use Rattle.clause.proofs.Truths.{clause_words, apart_word}
 use Rattle.lines.specs.declared.line.Line.{Line}
-use Rattle.lines.specs.Format.{literals, line_at, line_number, reaches}
-use Rattle.rule.specs.Rule.{Cancels, Joined, Empty, Given, Earlier, Derived, Right}
-use Rattle.rule.specs.Tests.{is_bare, is_earlier, are_earlier, is_joined, resolves, is_derived, within_of, clause_within, stands_as, alike, passes_as, passes_of, passes}
+use Rattle.lines.specs.Format.{literals, line_at, reaches}
+use Rattle.rule.specs.Rule.{Cancels, Joined, Given, Earlier, Derived, Right}
+use Rattle.rule.specs.Tests.{is_bare, is_earlier, is_joined, resolves, is_derived, within_of, stands_as, alike, passes_as, passes_of, passes}
 use Rattle.rule.proofs.Atoms.{same_atoms, shares, single_atom, atom_single}
 
 never : {P : Type 0} → (P → ⊥) → Decides false P

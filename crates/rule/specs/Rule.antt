@@ -1,5 +1,5 @@
 -- The resolution rule, by atoms.
-use Rattle.std.specs.Prelude.{◌≡◌, ℕ, ◌<◌, ◌≤◌, Bool, true, not, ◌&&◌, ◌||◌, ◌⊎◌, ◌↔◌, List, ◌==◌}
+use Rattle.std.specs.Prelude.{◌≡◌, ℕ, ◌<◌, ◌≤◌, true, not, ◌&&◌, ◌||◌, ◌⊎◌, ◌↔◌, List, ◌==◌}
 use Rattle.clause.specs.Words.{at}
 use Rattle.clause.specs.Clauses.{Literals, Shares, top}
 use Rattle.lines.specs.declared.line.Line.{Line}

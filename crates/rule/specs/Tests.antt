@@ -1,5 +1,5 @@
 -- The tests on words that decide the rule.
-use Rattle.std.specs.Prelude.{ℕ, Bool, true, false, cond, not, ◌&&◌, ◌||◌, List, Some, None, Option, ◌==◌, bit_and, bit_or, bit_xor, count_ones, nat_le, nat_lt}
+use Rattle.std.specs.Prelude.{ℕ, Bool, false, cond, not, ◌&&◌, ◌||◌, List, Some, None, Option, ◌==◌, bit_and, bit_or, bit_xor, count_ones, nat_le, nat_lt}
 use Rattle.clause.specs.declared.words.Clause.{Clause}
 use Rattle.clause.specs.Clauses.{Literals, lits, clause_of, top}
 use Rattle.lines.specs.declared.line.Line.{Line}

@@ -1,13 +1,13 @@
 -- The computed marks keep the law of marking, and no others do.
-use Rattle.std.proofs.Common.{◌≡◌, ℕ, zero, suc, ◌+◌, ◌-◌, ◌<◌, ◌≤◌, Bool, true, false, cond, ◌&&◌, ◌||◌, eqb, ◌⊎◌, ◌↔◌, List, [], ◌∷◌, ◌++◌, length, get_or, take, drop, sym, refl, ap, ◌∙◌, subst, ap₂, inl, inr, ⊎_elim, arith, length-append, length-drop}
+use Rattle.std.proofs.Common.{◌≡◌, ℕ, zero, suc, ◌+◌, ◌-◌, ◌<◌, ◌≤◌, Bool, true, false, cond, ◌&&◌, ◌||◌, eqb, ◌⊎◌, List, [], ◌∷◌, ◌++◌, length, get_or, drop, sym, refl, ap, ◌∙◌, subst, inl, inr, ⊎_elim, arith, length-append, length-drop}
 use Rattle.std.proofs.lemmas.List.{same_lists, get_or_default, get_or_append_left, get_or-append_right, get_or-drop}
-use Rattle.std.proofs.lemmas.Bool.{eq-eqb, eqb-true, cases_Bool, cases_lt, or_cases, or_left, or_right, and_parts, and_from, cond-true, cond-false}
+use Rattle.std.proofs.lemmas.Bool.{eq-eqb, eqb-true, cases_lt, or_cases, or_left, or_right, and_parts, and_from, cond-true}
 use Rattle.store.specs.declared.entry.Entry.{Entry}
 use Rattle.store.specs.Held.{blank}
-use Rattle.trace.specs.Marks.{entry_of, marked, is_antecedent, is_used, mark_before, marks_from, marks_of}
+use Rattle.trace.specs.Marks.{entry_of, marked, is_used, mark_before, marks_from, marks_of}
 use Rattle.trace.specs.Laws.{Antecedent}
 use Rattle.trace.specs.Calls.{over}
-use Rattle.trace.proofs.Marking.{Named, Wanted, Marked, Marks}
+use Rattle.trace.proofs.Marking.{Marked, Marks}
 
 -- ---- one law for at most one set of marks
 

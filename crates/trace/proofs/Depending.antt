@@ -1,13 +1,13 @@
 -- Marks and lines by the antecedents of the entries.
-use Rattle.std.proofs.Common.{◌≡◌, ℕ, zero, suc, ◌+◌, ◌-◌, ◌<◌, ◌≤◌, Bool, true, false, cond, ◌≢◌, ◌⊎◌, ◌↔◌, List, [], ◌∷◌, ◌++◌, length, sym, refl, ap, ◌∙◌, subst, inl, inr, ⊎_elim, arith, length-append}
+use Rattle.std.proofs.Common.{◌≡◌, ℕ, zero, suc, ◌+◌, ◌<◌, ◌≤◌, Bool, true, false, cond, ◌≢◌, List, [], ◌∷◌, ◌++◌, length, sym, refl, ap, ◌∙◌, subst, inl, inr, ⊎_elim, arith, length-append}
 use Rattle.std.proofs.lemmas.List.{get_or_past}
-use Rattle.std.proofs.lemmas.Bool.{cases_lt, cases_eq, cond-true, cond-false}
+use Rattle.std.proofs.lemmas.Bool.{cases_lt}
 use Rattle.store.specs.declared.entry.Entry.{Entry}
 use Rattle.store.specs.Held.{blank}
 use Rattle.trace.specs.Marks.{entry_of, marked, marks_of}
-use Rattle.trace.specs.Lines.{order, place_from, place, written}
-use Rattle.trace.specs.Laws.{Antecedent, Reached, Depends, Ordered, MarkLaw, From, Lined, LineLaw}
-use Rattle.trace.proofs.Marking.{Named, Wanted, Marked}
+use Rattle.trace.specs.Lines.{order, place, written}
+use Rattle.trace.specs.Laws.{Antecedent, Reached, Depends, Ordered, MarkLaw, LineLaw}
+use Rattle.trace.proofs.Marking.{Marked}
 use Rattle.trace.proofs.Computed.{marks_law}
 use Rattle.trace.proofs.Numbering.{order_on, order_off, order_within, place_push, place_last}
 

@@ -1,8 +1,8 @@
 -- The trace depends on the marks of the entries alone.
-use Rattle.std.proofs.Common.{◌≡◌, ℕ, ◌≤◌, List, length, ap, ◌∙◌, arith}
+use Rattle.std.proofs.Common.{◌≡◌, ℕ, List, length, ap, ◌∙◌, arith}
 use Rattle.store.specs.declared.entry.Entry.{Entry}
 use Rattle.trace.specs.Marks.{marked, marks_of}
-use Rattle.trace.specs.Lines.{chosen, written, trace_lines, trace_of, trace}
+use Rattle.trace.specs.Lines.{chosen, trace_lines, trace_of, trace}
 use Rattle.trace.specs.Calls.{over}
 use Rattle.trace.proofs.Computed.{length_marks, marked_over}
 use Rattle.trace.proofs.Numbering.{order_same}

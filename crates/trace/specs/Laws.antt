@@ -1,5 +1,5 @@
 -- What marks and lines are, without a way to compute them.
-use Rattle.std.specs.Prelude.{◌≡◌, ℕ, zero, suc, ◌<◌, ◌≤◌, Bool, true, ◌⊎◌, ◌↔◌, List, [], ◌∷◌, length}
+use Rattle.std.specs.Prelude.{◌≡◌, ℕ, zero, suc, ◌<◌, ◌≤◌, true, ◌⊎◌, ◌↔◌, List, length}
 use Rattle.store.specs.declared.entry.Entry.{Entry}
 use Rattle.trace.specs.Marks.{entry_of, marked, marks_of}
 use Rattle.trace.specs.Lines.{place, written}

@@ -1,5 +1,4 @@
 use Rattle.std.proofs.Common.{ℕ, List, length, ap, ◌∙◌}
-use Rattle.trace.specs.Lines.{trace}
 use Rattle.trace.specs.Calls.{over}
 use Rattle.trace.proofs.Whole.{trace_same}
 use Rattle.trace.proofs.call.write_refutation.Goals as goal

@@ -1,5 +1,4 @@
-use Rattle.std.proofs.Common.{◌≡◌, ℕ, ◌+◌, ◌*◌, cond, List, length, ap, ◌∙◌, subst, arith}
-use Rattle.lines.specs.declared.line.Line.{Line}
+use Rattle.std.proofs.Common.{ℕ, ◌+◌, ◌*◌, cond, ap, ◌∙◌, subst, arith}
 use Rattle.lines.specs.Bytes.{wrote as put}
 use Rattle.lines.specs.Format.{line_bytes, trailer_bytes}
 use Rattle.rule.specs.Tests.{is_bare}

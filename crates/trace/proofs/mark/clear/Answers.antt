@@ -1,4 +1,4 @@
-use Rattle.std.proofs.Common.{ℕ, ◌<◌, ◌≢◌, List, length, get_or, ap, ◌∙◌, arith, get_or-set_other, get_or-set_same, below_more}
+use Rattle.std.proofs.Common.{ℕ, List, get_or, ap, ◌∙◌, arith, get_or-set_other, get_or-set_same, below_more}
 use Rattle.trace.proofs.mark.clear.Goals as goal
 
 pub loop-i-preserved : goal.loop-i-preserved
