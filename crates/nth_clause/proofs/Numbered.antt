@@ -1,14 +1,13 @@
 -- The words of clause k by its digits, and the order of the clauses by their numbers.
-use Rattle.std.proofs.Common.{◌≡◌, ℕ, zero, suc, ◌+◌, ◌-◌, ◌*◌, ◌/◌, ◌%◌, ◌^◌, ◌<◌, ◌≤◌, Bool, true, false, cond, eqb, ◌⊎◌, sym, refl, ap, ◌∙◌, subst, ap₂, inl, inr, ⊎_elim, pow-suc, one-add, arith}
-use lib.Bits.{bit_and}
+use Rattle.std.proofs.Common.{◌≡◌, ℕ, zero, suc, ◌+◌, ◌-◌, ◌*◌, ◌/◌, ◌%◌, ◌^◌, ◌<◌, ◌≤◌, Bool, true, cond, eqb, sym, refl, ap, ◌∙◌, subst, ap₂, ⊎_elim, pow-suc, one-add, arith}
 use Rattle.std.proofs.lemmas.Nat.{shr-shr}
 use Rattle.std.proofs.lemmas.Bool.Decides.{nat_tests}
 use Rattle.std.proofs.lemmas.Bool.{cases_lt}
 use Rattle.clause.specs.Words.{at}
 use Rattle.clause.proofs.Bits.{at_zero, at_none}
 use Rattle.clause.specs.Clauses.{Literals}
-use Rattle.clause.specs.Order.{treats, Before}
-use Rattle.nth_clause.specs.Digits.{unit, word, nth, InOrder}
+use Rattle.clause.specs.Order.{treats}
+use Rattle.nth_clause.specs.Digits.{unit, word, InOrder}
 
 pub word_none : (d n k : ℕ) → n ≡ 0 → 0 ≡ word d n k
 unfolding word

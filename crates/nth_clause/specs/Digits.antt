@@ -1,5 +1,5 @@
 -- Clauses numbered in clause order: the digits of a number in base 3, from the lowest, say how atoms 1, 2, .. are treated: 0 absent, 1 positive, 2 negative.
-use Rattle.std.specs.Prelude.{ℕ, zero, suc, ◌+◌, ◌*◌, ◌/◌, ◌%◌, ◌^◌, ◌<◌, Bool, true, false, cond, ◌==◌}
+use Rattle.std.specs.Prelude.{ℕ, zero, suc, ◌+◌, ◌*◌, ◌/◌, ◌%◌, ◌^◌, ◌<◌, cond, ◌==◌}
 use Rattle.clause.specs.Clauses.{Literals}
 use Rattle.clause.specs.Order.{Before}
 

@@ -1,5 +1,4 @@
-use Rattle.std.proofs.Common.{◌≡◌, ℕ, ◌+◌, ◌-◌, ◌*◌, ◌/◌, ◌^◌, ◌<◌, sym, ap, ◌∙◌, subst, ap₂, arith, pow_pos, rules}
-use Rattle.nth_clause.specs.Digits.{word, unit}
+use Rattle.std.proofs.Common.{ℕ, ◌+◌, ◌*◌, ◌<◌, sym, ◌∙◌, subst, ap₂, arith, pow_pos}
 use Rattle.nth_clause.proofs.Numbered.{word_none, word_more, more_fits, unit_bit}
 use Rattle.nth_clause.proofs.+word.Goals as goal
 

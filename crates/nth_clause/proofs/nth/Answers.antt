@@ -1,4 +1,4 @@
-use Rattle.std.proofs.Common.{◌≡◌, ℕ, Bool, true, sym, ap, ◌∙◌, ap₂}
+use Rattle.std.proofs.Common.{ℕ, sym, ap, ◌∙◌, ap₂}
 use Rattle.clause.specs.Words.{at}
 use Rattle.clause.specs.Clauses.{Literals}
 use Rattle.nth_clause.proofs.Numbered.{apart_at, in_order}
