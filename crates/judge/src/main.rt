@@ -1,9 +1,9 @@
 // Reads a trace from standard input and prints whether it is sound, or the number and the place of its first fault.
 #![tactic(auto)]
 
-use trace_check::judge::judge_trace;
 use std::io;
 use std::io::Read;
+use trace_check::judge::judge_trace;
 
 // The longest trace has 393,264 bytes, so that one that fills these has a wrong trailer, and so has any longer one.
 const MOST: u64 = 393_288;

@@ -2,8 +2,9 @@
 use Rattle.std.proofs.Common.{◌≡◌, ℕ, zero, suc, ◌+◌, ◌*◌, ◌^◌, ◌<◌, ◌≤◌, true, ◌⊎◌, List, [], ◌∷◌, length, get_or, take, Ordering, Less, Equal, Greater, sym, refl, ap, subst, ap₂, inl, inr, mul-le-mul_right, add-mul, pow-suc, arith}
 use native.Mathlib.Nat.{one-le-pow}
 use Rattle.std.proofs.lemmas.Bool.{cases_order}
-use Rattle.std.specs.Ordering.{MatchOrdering}
-use Rattle.std.specs.Cmp.Lexicographic.{Lex}
+use Rattle.std.specs.Ordering.{MatchOrdering, nat_cmp, ordering_then}
+use Rattle.std.specs.Cmp.{ranks}
+use Rattle.std.specs.Cmp.Lexicographic.{slice_cmp}
 use Rattle.row.specs.Order.{Compares}
 use Rattle.names.specs.Bytes.{is_name, Before, ByBytes, worth, rank, OrderLaw}
 use Rattle.names.proofs.Spellings.{Digits, named}
@@ -27,18 +28,21 @@ further x y xs ys e b =
     }
 
 -- what a comparison of two words answers is their order by bytes
-pub by_bytes : (xs ys : List ℕ) (r : Ordering) → Lex (λ x y o. MatchOrdering o (x < y) (x ≡ y) (y < x)) xs ys r → ByBytes xs ys r
+pub by_bytes : (xs ys : List ℕ) (r : Ordering) → r ≡ slice_cmp nat_cmp xs ys → ByBytes xs ys r
 by_bytes [] [] r h = subst (ByBytes [] []) (sym h) refl
 by_bytes [] (y ∷ ys) r h = subst (ByBytes [] (y ∷ ys)) (sym h) (shorter y ys)
 by_bytes (x ∷ xs) [] r h = subst (ByBytes (x ∷ xs) []) (sym h) (shorter x xs)
-by_bytes (x ∷ xs) (y ∷ ys) r (Less, p, h) = subst (ByBytes (x ∷ xs) (y ∷ ys)) (sym h) (lesser x y xs ys p)
-by_bytes (x ∷ xs) (y ∷ ys) r (Equal, p, h) = more r (by_bytes xs ys r h)
+by_bytes (x ∷ xs) (y ∷ ys) r h = first (nat_cmp x y) (ranks x y) (by_bytes xs ys r) h
   where
-    more : (r : Ordering) → ByBytes xs ys r → ByBytes (x ∷ xs) (y ∷ ys) r
-    more Less h = further x y xs ys p h
-    more Equal h = ap₂ (λ a b. a ∷ b) p h
-    more Greater h = further y x ys xs (sym p) h
-by_bytes (x ∷ xs) (y ∷ ys) r (Greater, p, h) = subst (ByBytes (x ∷ xs) (y ∷ ys)) (sym h) (lesser y x ys xs p)
+    more : (r : Ordering) → x ≡ y → ByBytes xs ys r → ByBytes (x ∷ xs) (y ∷ ys) r
+    more Less p h = further x y xs ys p h
+    more Equal p h = ap₂ (λ a b. a ∷ b) p h
+    more Greater p h = further y x ys xs (sym p) h
+
+    first : (o : Ordering) → MatchOrdering o (x < y) (x ≡ y) (y < x) → (r ≡ slice_cmp nat_cmp xs ys → ByBytes xs ys r) → r ≡ ordering_then o (slice_cmp nat_cmp xs ys) → ByBytes (x ∷ xs) (y ∷ ys) r
+    first Less p rest h = subst (ByBytes (x ∷ xs) (y ∷ ys)) (sym h) (lesser x y xs ys p)
+    first Equal p rest h = more r p (rest h)
+    first Greater p rest h = subst (ByBytes (x ∷ xs) (y ∷ ys)) (sym h) (lesser y x ys xs p)
 
 -- of two words one comes first, or they are the same
 ordered : (v w : List ℕ) → (v ≡ w) ⊎ (Before v w ⊎ Before w v)

@@ -1,6 +1,6 @@
-ghost use Rattle.std.specs.Prelude.{◌≡◌, ◌-◌, ◌<◌, ◌≤◌, true, [], ◌∷◌, ◌++◌, length, replicate};
-ghost use Rattle.std.specs.Cmp.Lexicographic.{Lex};
-ghost use Rattle.std.specs.Ordering.{MatchOrdering};
+ghost use Rattle.std.specs.Prelude.{◌≡◌, ◌-◌, ◌≤◌, true, [], ◌∷◌, ◌++◌, length, replicate};
+ghost use Rattle.std.specs.Cmp.Lexicographic.{slice_cmp};
+ghost use Rattle.std.specs.Ordering.{nat_cmp};
 ghost use Rattle.row.specs.Order.{Compares};
 ghost use Rattle.names.specs.Bytes.{visible, visibles, is_name, naming, rank, ByBytes, OrderLaw};
 ghost use Rattle.names.specs.Names.{spelled, spelling};
@@ -53,7 +53,7 @@ impl Name {
 
 // The first bytes that differ decide, or else the lengths.
 fn compare_bytes(a: &[u8], b: &[u8]) -> Ordering
-    ensures { Lex (λ x y o. MatchOrdering o (x < y) (x ≡ y) (y < x)) a.now b.now result }
+    ensures { result ≡ slice_cmp nat_cmp a.now b.now }
 {
     a.cmp(b)
 }

@@ -1,5 +1,5 @@
 -- Given lines counted, and the trailer that says how many they are.
-use Rattle.std.proofs.Common.{◌≡◌, ℕ, zero, suc, ◌+◌, ◌-◌, ◌*◌, ◌/◌, ◌≤◌, Bool, true, false, cond, List, length, sym, refl, ap, ◌∙◌, div-mul-le_self, add-one, arith}
+use Rattle.std.proofs.Common.{◌≡◌, ℕ, ◌+◌, ◌-◌, ◌*◌, ◌≤◌, Bool, cond, List, length, div-mul-le_self, add-one, arith}
 use Rattle.lines.specs.Format.{line_at}
 use Rattle.rule.specs.Tests.{is_bare}
 use Rattle.trace_check.specs.Trailers.{givens, Ended}

@@ -1,5 +1,5 @@
 -- What a check knows as it takes lines, and that the knowledge comes out again.
-use Rattle.std.proofs.Common.{◌≡◌, ℕ, ◌+◌, ◌<◌, ◌≤◌, ◌⊎◌, List, Some, None, Option, sym, refl, ap, ◌∙◌, inl, inr, ⊎_elim, arith}
+use Rattle.std.proofs.Common.{◌≡◌, ℕ, ◌+◌, ◌<◌, List, Some, None, Option, ap, ⊎_elim, arith}
 use mathlib.Core.HLevel.{⊥_prop}
 use mathlib.Core.List.{is_set}
 use mathlib.Core.Logic.{∥∥₁_elim, ∥∥₁_map}
@@ -13,7 +13,7 @@ use Rattle.rule.proofs.Law.{passes_law}
 use Rattle.trace_check.specs.declared.fault.Fault.{Fault}
 use Rattle.trace_check.specs.declared.fault.Fault.TheVariants.{Trailer as WrongTrailer, Line as WrongLine}
 use Rattle.trace_check.specs.Trailers.{Ended}
-use Rattle.trace_check.specs.Checks.{Upto, Unended, Stands}
+use Rattle.trace_check.specs.Checks.{Upto, Stands}
 
 pub upto_none : (bs : List ℕ) (n last : ℕ) → Upto bs n last 0
 unfolding Upto

@@ -1,14 +1,14 @@
 -- What the answers of a check say of its trace.
-use Rattle.std.proofs.Common.{◌≡◌, ℕ, ◌+◌, ◌-◌, ◌<◌, ◌≤◌, Bool, true, false, cond, ltb, ◌⊎◌, List, is_ok, Some, None, Ok, Err, Decides, Option, Result, sym, refl, ap, ◌∙◌, inl, inr, ⊎_elim, arith}
+use Rattle.std.proofs.Common.{◌≡◌, ℕ, ◌+◌, ◌-◌, ◌≤◌, Bool, true, false, cond, ltb, List, is_ok, Some, None, Ok, Err, Decides, Option, Result, sym, refl, ap, ◌∙◌, inl, inr, ⊎_elim, arith}
 use Rattle.std.proofs.lemmas.Bool.{both_ways, ltb-true, ltb-false}
 use Rattle.clause.specs.declared.refusal.Refusal.{Refusal}
-use Rattle.clause.specs.Refusals.{answer, told, refused}
+use Rattle.clause.specs.Refusals.{answer, refused}
 use Rattle.lines.specs.declared.line.Trailer.{Trailer}
 use Rattle.rule.specs.Rule.{Right}
 use Rattle.trace_check.specs.declared.fault.Fault.{Fault}
 use Rattle.trace_check.specs.declared.fault.Fault.TheVariants.{Trailer as WrongTrailer, Line as WrongLine}
 use Rattle.trace_check.specs.Trailers.{Ended}
-use Rattle.trace_check.specs.Checks.{Upto, Unended, Stands, Sound, FirstWrong, Partial, Means, Outcome, judgement, waiting}
+use Rattle.trace_check.specs.Checks.{Upto, Stands, Sound, FirstWrong, Means, Outcome, judgement, waiting}
 use Rattle.trace_check.specs.Meaning.{Refutes}
 use Rattle.trace_check.proofs.Soundness.{refutes}
 

@@ -1,14 +1,12 @@
 -- A sound trace refutes its given lines.
-use Rattle.std.proofs.Common.{◌≡◌, ℕ, zero, suc, ◌+◌, ◌-◌, ◌/◌, ◌<◌, ◌≤◌, Bool, true, false, not, ◌&&◌, ◌||◌, eqb, ◌⊎◌, List, length, sym, refl, ap, ◌∙◌, inl, inr, ⊎_elim, arith}
+use Rattle.std.proofs.Common.{◌≡◌, ℕ, zero, suc, ◌-◌, ◌<◌, ◌≤◌, Bool, true, false, not, ◌&&◌, ◌||◌, eqb, List, length, sym, refl, ap, ◌∙◌, ⊎_elim, arith}
 use Rattle.std.proofs.lemmas.Nat.{le-div}
 use Rattle.std.proofs.lemmas.Bool.{cases_Bool, cases_eq, ne_eqb, both_ways}
 use Rattle.clause.specs.Words.{at}
 use Rattle.clause.specs.Clauses.{Literals, Shares, lit, makes}
 use Rattle.clause.proofs.Truths.{makes_find, makes_some, empty_false}
-use Rattle.lines.specs.declared.line.Line.{Line}
 use Rattle.lines.specs.Format.{literals, line_at}
-use Rattle.rule.specs.Rule.{Cancels, Joined, Given, Derived, Right}
-use Rattle.trace_check.specs.Trailers.{Ended}
+use Rattle.rule.specs.Rule.{Cancels, Joined}
 use Rattle.trace_check.specs.Checks.{Upto, Sound}
 use Rattle.trace_check.specs.Meaning.{Models, Refutes}
 

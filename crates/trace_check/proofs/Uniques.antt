@@ -1,11 +1,11 @@
 -- A trace has only one outcome.
-use Rattle.std.proofs.Common.{◌≡◌, ℕ, ◌+◌, ◌-◌, ◌<◌, ◌≤◌, ◌⊎◌, List, Ok, Err, Result, sym, refl, ap, ◌∙◌, subst, inl, inr, ⊎_elim, arith}
+use Rattle.std.proofs.Common.{◌≡◌, ℕ, ◌<◌, ◌≤◌, List, Ok, Err, Result, sym, refl, ap, ◌∙◌, subst, inl, inr, ⊎_elim, arith}
 use Rattle.std.proofs.lemmas.Bool.{cases_lt}
 use Rattle.clause.specs.Refusals.{Told, refused}
 use Rattle.lines.specs.declared.line.Trailer.{Trailer}
 use Rattle.rule.specs.Rule.{Right}
 use Rattle.trace_check.specs.Trailers.{Ended}
-use Rattle.trace_check.specs.Checks.{Upto, Unended, Sound, FirstWrong, Outcome}
+use Rattle.trace_check.specs.Checks.{Upto, Sound, FirstWrong, Outcome}
 
 module _ (bs : List ℕ) where
   same_atoms : (n m last end : ℕ) → Ended bs n last → Ended bs m end → n ≡ m

@@ -1,5 +1,5 @@
 -- What a check knows of its trace, and what its calls answer.
-use Rattle.std.specs.Prelude.{◌≡◌, ℕ, ◌+◌, ◌-◌, ◌<◌, ◌≤◌, Bool, true, false, cond, ◌⊎◌, List, Some, None, Ok, Err, Option, Result, nat_lt}
+use Rattle.std.specs.Prelude.{◌≡◌, ℕ, ◌+◌, ◌-◌, ◌<◌, ◌≤◌, Bool, false, cond, ◌⊎◌, List, Some, None, Ok, Err, Option, Result, nat_lt}
 use Rattle.clause.specs.Refusals.{Told, refused}
 use Rattle.rule.specs.Rule.{Right}
 use Rattle.trace_check.specs.declared.fault.Fault.{Fault}

@@ -1,4 +1,4 @@
-use Rattle.std.proofs.Common.{◌≡◌, ℕ, suc, ◌+◌, ◌<◌, ◌≤◌, min, Bool, true, false, cond, List, length, get_or, drop, Some, None, Option, sym, refl, ap, ◌∙◌, subst, add-one, arith}
+use Rattle.std.proofs.Common.{◌≡◌, ℕ, suc, ◌+◌, ◌<◌, Bool, true, false, cond, List, length, get_or, drop, Some, sym, ap, ◌∙◌, add-one, arith}
 use Rattle.clause.specs.declared.words.Clause.{Clause}
 use Rattle.store_orders.specs.Arrivals.{counts, first_known}
 use Rattle.store_orders.proofs.Knowing.{first_at, first_none}

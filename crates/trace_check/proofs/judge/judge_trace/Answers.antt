@@ -1,4 +1,4 @@
-use Rattle.std.proofs.Common.{◌≡◌, ℕ, List, Result, sym, subst}
+use Rattle.std.proofs.Common.{ℕ, List, Result, sym, subst}
 use Rattle.clause.specs.Refusals.{Told, answer}
 use Rattle.trace_check.specs.Checks.{Outcome, judgement}
 use Rattle.trace_check.proofs.Knowing.{stands_out}

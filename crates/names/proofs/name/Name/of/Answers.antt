@@ -10,7 +10,11 @@ invariant_of-result c =
     let w = c.args.word.now in
     let good = sym c.if-not-is_name.ensures in
     let n = length w in
-    ((named w good).short, (ap is_name (front c.padded.result w n c.padded.ensures refl) ∙ good, (behind c.padded.result w n c.padded.ensures refl, tt)))
+    record {
+      short = (named w good).short;
+      good = ap is_name (front c.padded.result w n c.padded.ensures refl) ∙ good;
+      padded = behind c.padded.result w n c.padded.ensures refl;
+    }
 
 pub returns : goal.returns
 returns c =

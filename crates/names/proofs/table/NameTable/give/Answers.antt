@@ -10,7 +10,7 @@ invariant_of-self c =
     let row = c.add.new.self in
     let a = c.add.ensures in
     let w = numbered_after _ _ _ o (record { name = c.args.name; atom = c.next_atom-atom.result }) c.next_atom-atom.ensures row.slots.now row.size row.places a.places c.add.result (a.adds s) (a.sound s) in
-    (w.within, (w.fits, (w.few, (w.rising, (w.counted, (w.seated, (w.single, tt)))))))
+    record { within = w.within; fits = w.fits; few = w.few; rising = w.rising; counted = w.counted; seated = w.seated; single = w.single }
 
 pub returns-in-Held : goal.returns-in-Held
 returns-in-Held c =

@@ -1,4 +1,4 @@
-use Rattle.std.proofs.Common.{◌≡◌, Result, sym, subst}
+use Rattle.std.proofs.Common.{Result, sym, subst}
 use Rattle.clause.specs.Refusals.{Told, answer}
 use Rattle.trace_check.specs.Checks.{Means}
 use Rattle.trace_check.proofs.Knowing.{stands_out}
