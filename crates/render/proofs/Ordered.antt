@@ -1,5 +1,5 @@
 -- Literals gathered in order of atoms, from atom 1 on.
-use Rattle.std.proofs.Common.{◌≡◌, ℕ, zero, suc, ◌+◌, ◌-◌, ◌≤◌, List, [], ◌∷◌, ◌++◌, ℤ, sym, refl, ap, ◌∙◌, append-nil, arith}
+use Rattle.std.proofs.Common.{◌≡◌, ℕ, zero, suc, ◌+◌, ◌-◌, ◌≤◌, List, [], ◌++◌, ℤ, sym, ap, ◌∙◌, append-nil, arith}
 use Rattle.render.specs.Texts.{in_order}
 
 module _ (f : ℕ → List ℤ) where

@@ -1,5 +1,5 @@
 -- What is printed of a reply.
-use Rattle.std.specs.Prelude.{ℕ, zero, suc, min, Bool, true, false, cond, List, [], ◌∷◌, ◌++◌, map, ℤ, pos, neg_ℤ, Some, None, codes, decimal, Option}
+use Rattle.std.specs.Prelude.{ℕ, zero, suc, min, cond, List, [], ◌∷◌, ◌++◌, map, ℤ, pos, neg_ℤ, Some, None, codes, decimal, Option}
 use Rattle.std.specs.Option.{option_to_list}
 use Rattle.std.specs.Fmt.{signed_decimal}
 use Rattle.clause.specs.declared.words.Clause.{Clause}

@@ -1,4 +1,4 @@
-use Rattle.std.proofs.Common.{◌≡◌, [], ◌∷◌, ◌++◌, vec_items, sym, ap, ◌∙◌, arith, rules}
+use Rattle.std.proofs.Common.{◌≡◌, [], ◌∷◌, ◌++◌, vec_items, ap, ◌∙◌, arith, rules}
 use Rattle.render.specs.Texts.{true_at}
 use Rattle.render.proofs.Ordered.{none_yet, one_more, no_more}
 use Rattle.render.proofs.true_of.Goals as goal

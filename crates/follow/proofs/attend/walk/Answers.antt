@@ -11,7 +11,7 @@ loop-init g c = (ap (λ b. walked b (g.S.ClauseStore.held c.args.session.now.sto
 pub returns-in_err-items : goal.returns-in_err-items
 returns-in_err-items g c = record {
   named = c.walk_once-answer.ensures.named ∙ c.loop.invariant.1;
-  made = IfOk-from_err _ _ (ap is_err (err_from_is_err_and c.from-residual.result c.from-residual.ensures.1).1);
+  made = IfOk-from_err _ _ (ap is_err (err_from_is_err_and c.from_residual.result c.from_residual.ensures.1).1);
 }
 
 pub returns-then-not-is_spent : goal.returns-then-not-is_spent
