@@ -11,10 +11,12 @@ import sys
 import tempfile
 
 ROOT = os.path.join(os.path.dirname(os.path.abspath(__file__)), "..")
-NEEDED = ("clause", "lines", "rule", "check")
+NEEDED = ("clause", "lines", "rule", "trace_check")
 
-USER = """use check::check::OpenCheck;
+USER = """#![tactic(auto)]
+
 use clause::refusal::Refusal;
+use trace_check::check::OpenCheck;
 
 // Takes one line, and judges what was taken.
 pub fn first_line(trace: &[u8]) -> Result<(), Refusal> {
@@ -36,7 +38,7 @@ def prove(copy, source):
     """Checks the crate with this source: its status, and what was printed."""
     with open(os.path.join(copy, "crates", "user", "src", "lib.rt"), "w") as out:
         out.write(source)
-    run = subprocess.run(["rt", "check", "user"], cwd=copy, stdout=subprocess.PIPE, stderr=subprocess.STDOUT, check=False)
+    run = subprocess.run(["rt", "check"], cwd=os.path.join(copy, "crates", "user"), stdout=subprocess.PIPE, stderr=subprocess.STDOUT, check=False)
     return run.returncode, run.stdout.decode("utf-8", "replace")
 
 

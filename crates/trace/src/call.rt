@@ -5,8 +5,8 @@ ghost use Rattle.trace.specs.Lines.{trace};
 ghost use Rattle.trace.specs.Calls.{left, over, has_room, traced};
 
 use crate::held::count;
-use crate::lines::put_trace;
 use crate::mark::mark;
+use crate::put::put_trace;
 use clause::refusal::Refusal;
 use session::search::Phase;
 use session::session::Session;

@@ -4,6 +4,6 @@
 pub mod call;
 mod held;
 pub mod laws;
-mod lines;
 mod mark;
 mod number;
+mod put;

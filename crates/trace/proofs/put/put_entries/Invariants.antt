@@ -2,7 +2,7 @@ use Rattle.std.proofs.Common.{length}
 use Rattle.trace.specs.Marks.{marked}
 use Rattle.trace.specs.Lines.{order}
 use Rattle.trace.proofs.Writing.{Done}
-use Rattle.trace.proofs.lines.put_entries.Given as goal
+use Rattle.trace.proofs.put.put_entries.Given as goal
 
 abbrev pub invariant-loop-i : goal.invariant-loop-i
 invariant-loop-i g l =

@@ -8,7 +8,7 @@ use Rattle.trace.specs.Lines.{order, chosen, trailer_for}
 use Rattle.trace.specs.Tables.{Table, by_table}
 use Rattle.trace.proofs.Numbering.{table_none}
 use Rattle.trace.proofs.Writing.{trace_count, trace_put}
-use Rattle.trace.proofs.lines.put_trace.Goals as goal
+use Rattle.trace.proofs.put.put_trace.Goals as goal
 
 pub number-requires : goal.number-requires
 number-requires g c = (omega arith, (omega arith, (omega arith, table_none 16384)))

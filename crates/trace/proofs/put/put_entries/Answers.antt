@@ -3,8 +3,8 @@ use Rattle.trace.specs.Marks.{marked}
 use Rattle.trace.specs.Lines.{chosen}
 use Rattle.trace.proofs.Marking.{mark_test}
 use Rattle.trace.proofs.Writing.{Done, done_none, done_off, done_on, moved}
-use Rattle.trace.proofs.lines.put_entries.Goals as goal
-use Rattle.trace.proofs.lines.put_entries.Goals.{then-is_marked, else-is_marked}
+use Rattle.trace.proofs.put.put_entries.Goals as goal
+use Rattle.trace.proofs.put.put_entries.Goals.{then-is_marked, else-is_marked}
 
 pub loop-i-init : goal.loop-i-init
 loop-i-init g c =
