@@ -1,142 +1,45 @@
 -- An add keeps the invariant.
-use Rattle.std.proofs.Common.{◌≡◌, ℕ, ◌+◌, ◌<◌, Bool, true, false, eqb, List, [], ◌∷◌, ◌++◌, length, ℤ, Some, None, Ok, Err, Option, Result, sym, refl, ap, ◌∙◌, subst, ⊎_elim, arith}
-use Rattle.std.proofs.lemmas.List.{get_or_push, get_or_append_left, length_push}
-use Rattle.std.proofs.lemmas.Bool.{cases_lt, eqb-false, cond-true, cond-false, cond_both}
+use Rattle.std.proofs.Common.{◌≡◌, ℕ, ◌<◌, Bool, true, false, eqb, List, ℤ, Ok, Err, Result, refl, arith}
+use Rattle.std.proofs.lemmas.Bool.{eqb-false}
 use Rattle.clause.specs.declared.words.Clause.{Clause}
-use Rattle.clause.specs.Words.{at}
-use Rattle.clause.specs.Clauses.{lits, makes, top}
+use Rattle.clause.specs.Clauses.{lits, top}
 use Rattle.clause.specs.Reading.{reads, clear}
-use Rattle.clause.specs.Refusals.{Told, refused}
-use Rattle.clause.proofs.Truths.{top_bound}
-use Rattle.store.specs.Held.{Held, size, clause_at, found, full, pushed, after_put, after_put_at, put_answer, put_answer_at}
-use Rattle.store.proofs.Finds.{some_found}
+use Rattle.clause.specs.Refusals.{Told}
+use Rattle.store.specs.Held.{Held, found}
 use Rattle.session.specs.declared.search.Search.{Search}
 use Rattle.session.specs.declared.search.Phase.{Phase}
 use Rattle.session.specs.declared.search.Phase.TheVariants.{Unopened, Undecided, Satisfied, Refuted}
-use Rattle.session.specs.Reports.{more}
-use Rattle.session.specs.Searching.{cleared, withdrawn, one_given, admitted}
-use Rattle.session.specs.Steps.{After, after}
-use Rattle.session.specs.Calls.{given, put_new, adding, add_clause, add_read, add_in}
-use Rattle.search_law.proofs.Counts.{exact}
-use Rattle.search_law.proofs.Entries.{find_push, same_lits}
-use Rattle.search_law.proofs.Growth.{Cut, uncut, cut_at, grow, accept}
+use Rattle.session.specs.Steps.{After}
+use Rattle.session.specs.Calls.{adding, add_clause, add_read, add_in}
+use Rattle.search_law.proofs.Accepts.{Accepts, adding_fine}
 use Rattle.search_law.proofs.Literals.{reads_ordinary}
-use Rattle.search_law.proofs.Reasons.{keep_true}
-use Rattle.search_law.proofs.Steps.{still}
-use Rattle.search_law.specs.Law.{Inv, Says, last_one, Added, AddLaw}
-use Rattle.search_law.specs.Models.{Makes}
-
--- what makes the accepted clauses and one more true
-module _ (acc : List Clause) (c : Clause) (v : ℕ) where
-  makes_fewer : Makes v (acc ++ (c ∷ [])) → Makes v acc
-  makes_fewer m i l = let n = length_push acc c in subst (λ (x : Clause). makes v (lits x) ≡ true) (get_or_append_left acc (c ∷ []) clear i l) (m i (omega arith))
-
-  makes_last : Makes v (acc ++ (c ∷ [])) → makes v (lits c) ≡ true
-  makes_last m = let n = length_push acc c in subst (λ (x : Clause). makes v (lits x) ≡ true) (get_or_push acc c clear (length acc) refl) (m (length acc) (omega arith))
-
-  makes_more : Makes v acc → makes v (lits c) ≡ true → Makes v (acc ++ (c ∷ []))
-  makes_more m t i l =
-      let n = length_push acc c in
-      ⊎_elim
-      (λ z. subst (λ (x : Clause). makes v (lits x) ≡ true) (sym (get_or_append_left acc (c ∷ []) clear i z)) (m i z))
-      (λ z. subst (λ (x : Clause). makes v (lits x) ≡ true) (sym (get_or_push acc c clear i (omega arith))) t)
-      (cases_lt i (length acc))
-
-last_withdrawn : (ph : Phase) → last_one (withdrawn ph) ≡ last_one ph
-last_withdrawn (Unopened e) = refl
-last_withdrawn Undecided = refl
-last_withdrawn Satisfied = refl
-last_withdrawn (Refuted i j) = refl
-
-says_withdrawn : (acc : List Clause) (c : Clause) (h h' : Held) (v v' : ℕ) (ph : Phase) → Says acc h v ph → Says (acc ++ (c ∷ [])) h' v' (withdrawn ph)
-says_withdrawn acc c h h' v v' (Unopened e) x = x
-says_withdrawn acc c h h' v v' Undecided x = tt
-says_withdrawn acc c h h' v v' Satisfied x = tt
-says_withdrawn acc c h h' v v' (Refuted i j) x = λ w m. x w (makes_fewer acc c w m)
+use Rattle.search_law.specs.Law.{Inv, Says, Added, AddLaw}
 
 abbrev AddedOf : List Clause → Held → Search → List ℤ → After (Result ℕ Told) → Type 0
 AddedOf acc h s ls a = Added acc h s ls a.held a.search a.answer
 
-module _ (acc : List Clause) (h : Held) (s : Search) (I : Inv acc h s) (ls : List ℤ) (c : Clause) (rd : reads s.atoms 0 clear ls ≡ Ok c) where
-  -- a held clause
-  again : (k : ℕ) → found h c ≡ Some k → AddedOf acc h s ls (after h s (Ok k))
-  again k q =
-      let r = some_found 1 h.entries c k q in
-      let e = same_lits (clause_at h.entries r.index) c r.is in (
-        still h s s refl,
-        (
-          c,
-          rd,
-          q,
-          accept acc (acc ++ (c ∷ [])) h s I (makes_fewer acc c)
-              (λ v m n. makes_more acc c v n (ap (makes v) (sym e) ∙ m r.index r.within)),
-        ),
-      )
+module _ (acc : List Clause) (h : Held) (s : Search) (I : Inv acc h s) (ls : List ℤ) where
+  module _ (c : Clause) (rd : reads s.atoms 0 clear ls ≡ Ok c) where
+    accepted : (h' : Held) (s' : Search) (r : Result ℕ Told) → Accepts acc h s c h' s' r → Added acc h s ls h' s' r
+    accepted h' s' (Ok k) x = (x.onward, (c, rd, x.numbered, x.keeps))
+    accepted h' s' (Err e) x = (x.0, x.1)
 
-  module _ (z : 0 < top (lits c)) (n : found h c ≡ None) where
-    new_held : (s' : Search) → s'.atoms ≡ s.atoms → Inv (acc ++ (c ∷ [])) (pushed h (given c)) s' → AddedOf acc h s ls (after (pushed h (given c)) s' (Ok (size h + 1)))
-    new_held s' e J = (
-      record { atoms = e; places = refl; more = given c ∷ []; grown = refl },
-      (c, rd, find_push h.entries (given c) 1 n ∙ ap Some (omega arith), J),
-    )
+    clause_fine : (b : Bool) → eqb (top (lits c)) 0 ≡ b → AddedOf acc h s ls (add_clause h s c b)
+    clause_fine true q = (refl, refl)
+    clause_fine false q =
+        let z : 0 < top (lits c) = let x = eqb-false (top (lits c)) 0 q in omega arith in
+        let a = adding h s c (found h c) in
+        accepted a.held a.search a.answer (adding_fine acc h s I c (reads_ordinary s.atoms c ls rd z) (found h c) refl)
 
-    grown_in : (s' : Search) → Cut s s'
-        → ((q : ℕ) → at s'.valuation q ≡ true → top (lits c) < q → makes s'.valuation (lits c) ≡ true)
-        → s'.phase ≡ withdrawn s.phase → s'.given ≡ more s.given → s'.made.derivations ≡ s.made.derivations → size h < h.places
-        → Inv (acc ++ (c ∷ [])) (pushed h (given c)) s'
-    grown_in s' C own ph g d l =
-        grow acc h s I s' C (acc ++ (c ∷ [])) (given c)
-        (λ v m. (makes_fewer acc c v m, makes_last acc c v m))
-        (makes_more acc c)
-        own
-        (reads_ordinary s.atoms c ls rd z) l
-        (subst (Says (acc ++ (c ∷ [])) (pushed h (given c)) s'.valuation) (sym ph) (says_withdrawn acc c h (pushed h (given c)) s.valuation s'.valuation s.phase I.says))
-        (let x = I.entries in
-        let y = (exact acc h s I).next_given in
-        let u = ap last_one ph in
-        let w = last_withdrawn s.phase in
-        omega arith)
+  read : (r : Result Clause Told) → reads s.atoms 0 clear ls ≡ r → AddedOf acc h s ls (add_read h s r)
+  read (Ok c) e = clause_fine c e (eqb (top (lits c)) 0) refl
+  read (Err x) e = (refl, refl)
 
-    admit_fine : size h < h.places → AddedOf acc h s ls (after (pushed h (given c)) (admitted s c) (Ok (size h + 1)))
-    unfolding cleared
-    admit_fine l = cond_both (makes s.valuation (lits c)) (one_given s) (cleared (one_given s) (top (lits c)))
-        (λ x. AddedOf acc h s ls (after (pushed h (given c)) x (Ok (size h + 1))))
-        (λ t. new_held (one_given s) refl
-        (grown_in (one_given s) (uncut acc h s I (withdrawn s.phase) s.made.derivations (more s.given)) (λ q u m. t) refl refl refl l))
-        (λ t. new_held (cleared (one_given s) (top (lits c))) refl
-        (grown_in (cleared (one_given s) (top (lits c)))
-        (cut_at acc h s I (top (lits c)) (top_bound 64 (lits c)) (withdrawn s.phase) s.made.derivations (more s.given))
-        (λ q u m. let w = (keep_true s.valuation (top (lits c)) q u).1 in absurd (omega arith)) refl refl refl l))
-
-    put_fine : (b : Bool) → full h ≡ b → AddedOf acc h s ls (put_new h s c (put_answer h (given c)))
-    put_fine true q =
-        let e : put_answer h (given c) ≡ Err (refused 10 0) = ap (put_answer_at h) n ∙ cond-true (full h) (Err (refused 10 0)) (Ok (size h + 1)) q in
-        subst (λ (r : Result ℕ Told). AddedOf acc h s ls (put_new h s c r)) (sym e)
-        (ap (after_put_at h (given c)) n ∙ cond-true (full h) h (pushed h (given c)) q, refl)
-    put_fine false q =
-        let e : put_answer h (given c) ≡ Ok (size h + 1) = ap (put_answer_at h) n ∙ cond-false (full h) (Err (refused 10 0)) (Ok (size h + 1)) q in
-        let g : after_put h (given c) ≡ pushed h (given c) = ap (after_put_at h (given c)) n ∙ cond-false (full h) h (pushed h (given c)) q in
-        let l : size h < h.places = let x = eqb-false (size h) h.places q in let y = I.room in omega arith in
-        subst (λ (r : Result ℕ Told). AddedOf acc h s ls (put_new h s c r)) (sym e)
-        (subst (λ (x : Held). AddedOf acc h s ls (after x (admitted s c) (Ok (size h + 1)))) (sym g) (admit_fine l))
-
-  adding_fine : 0 < top (lits c) → (o : Option ℕ) → found h c ≡ o → AddedOf acc h s ls (adding h s c o)
-  adding_fine z (Some k) q = again k q
-  adding_fine z None q = put_fine z q (full h) refl
-
-  clause_fine : (b : Bool) → eqb (top (lits c)) 0 ≡ b → AddedOf acc h s ls (add_clause h s c b)
-  clause_fine true q = (refl, refl)
-  clause_fine false q = adding_fine (let x = eqb-false (top (lits c)) 0 q in omega arith) (found h c) refl
+  opened : (ph : Phase) → Says acc h s.valuation ph → AddedOf acc h s ls (add_in h s ls ph)
+  opened (Unopened e) x = absurd x
+  opened Undecided x = read (reads s.atoms 0 clear ls) refl
+  opened Satisfied x = read (reads s.atoms 0 clear ls) refl
+  opened (Refuted i j) x = read (reads s.atoms 0 clear ls) refl
 
 pub add_law : AddLaw
-add_law acc h s I ls = go s.phase I.says
-  where
-    read : (r : Result Clause Told) → reads s.atoms 0 clear ls ≡ r → AddedOf acc h s ls (add_read h s r)
-    read (Ok c) e = clause_fine acc h s I ls c e (eqb (top (lits c)) 0) refl
-    read (Err x) e = (refl, refl)
-
-    go : (ph : Phase) → Says acc h s.valuation ph → AddedOf acc h s ls (add_in h s ls ph)
-    go (Unopened e) x = absurd x
-    go Undecided x = read (reads s.atoms 0 clear ls) refl
-    go Satisfied x = read (reads s.atoms 0 clear ls) refl
-    go (Refuted i j) x = read (reads s.atoms 0 clear ls) refl
+add_law acc h s I ls = opened acc h s I ls s.phase I.says

@@ -12,4 +12,8 @@ pub mod Runs
 pub mod Targets
 pub mod Opens
 pub mod Literals
+pub mod Texts
+pub mod Accepts
 pub mod Adds
+pub mod Loads
+pub mod Decides

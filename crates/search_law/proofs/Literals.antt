@@ -1,4 +1,4 @@
--- The clause that literals are read into has only atoms of the session.
+-- A clause that literals are put into one after the other has only atoms of the session.
 use Rattle.std.proofs.Common.{◌≡◌, ℕ, ◌+◌, ◌^◌, ◌<◌, ◌≤◌, min, Bool, true, false, cond, eqb, ltb, List, [], ◌∷◌, ℤ, pos, negsuc, nat_abs, Some, None, Ok, Err, Option, Result, sym, refl, ◌∙◌, subst, ⊎_elim, arith, lit<}
 use Rattle.std.proofs.lemmas.Bool.{or_parts, or_cases, eqb-true, eqb-false, ltb-false, both_ways}
 use Rattle.clause.specs.declared.words.Clause.{Clause}
@@ -11,11 +11,11 @@ use Rattle.clause.proofs.Truths.{clause_words, top_has}
 use Rattle.search_law.specs.Law.{Ordinary}
 
 -- a word of 64 bits without atoms above n
-record Fits (n w : ℕ) : Type 0 where
-  word : w < 2 ^ 64
-  atoms : (a : ℕ) → at w a ≡ true → a ≤ n
+pub record Fits (n w : ℕ) : Type 0 where
+  pub word : w < 2 ^ 64
+  pub atoms : (a : ℕ) → at w a ≡ true → a ≤ n
 
-abbrev Both : ℕ → Literals → Type 0
+abbrev pub Both : ℕ → Literals → Type 0
 Both n c = Fits n c.pos × Fits n c.neg
 
 with_in : (n w a : ℕ) → outside n a ≡ false → Fits n w → Fits n (with_atom w a)
@@ -29,7 +29,7 @@ with_in n w a o f =
       atoms = λ b t. ⊎_elim (λ y. f.atoms b y) (λ y. let e = eqb-true b a y in omega arith) (or_cases (at w b) (eqb b a) (sym (at_with w a b z) ∙ t));
     }
 
-grown_in : (n : ℕ) (c d : Clause) (l : ℤ) (a : ℕ) → outside n a ≡ false → grown c l a ≡ Some d → Both n (lits c) → Both n (lits d)
+pub grown_in : (n : ℕ) (c d : Clause) (l : ℤ) (a : ℕ) → outside n a ≡ false → grown c l a ≡ Some d → Both n (lits c) → Both n (lits d)
 unfolding grown
 grown_in n c d (pos k) a o e f =
     let w = clause_words (record { pos = with_atom c.positive a; neg = c.negative }) d e in
@@ -50,15 +50,17 @@ reads_in n i c d (l ∷ ls) e f = go (outside n (nat_abs l)) refl (grown c l (na
     go false q None p ih e = let z : ◌≡◌ {A = ℕ} 0 1 = cc in absurd (omega arith)
     go false q (Some x) p ih e = ih x e (grown_in n c x l (nat_abs l) q p f)
 
-nothing_in : (n : ℕ) → Fits n 0
-nothing_in n = record { word = lit< tt; atoms = λ a t. absurd (both_ways _ (at_zero a) t) }
+pub nothing_in : (n : ℕ) → Both n (lits clear)
+nothing_in n = (none, none)
+  where
+    none : Fits n 0
+    none = record { word = lit< tt; atoms = λ a t. absurd (both_ways _ (at_zero a) t) }
+
+-- a clause with atoms up to m is one of a session with at least so many
+pub ordinary_from : (m n : ℕ) (c : Clause) → m ≤ n → Both m (lits c) → 0 < top (lits c) → Ordinary n (lits c)
+ordinary_from m n c l f z =
+    let x : top (lits c) ≤ m = ⊎_elim (f.0.atoms (top (lits c))) (f.1.atoms (top (lits c))) (or_cases (at c.positive (top (lits c))) (at c.negative (top (lits c))) (top_has 64 (lits c) z)) in
+    record { some = z; within = omega arith; pos_fits = f.0.word; neg_fits = f.1.word }
 
 pub reads_ordinary : (n : ℕ) (c : Clause) (ls : List ℤ) → reads n 0 clear ls ≡ Ok c → 0 < top (lits c) → Ordinary n (lits c)
-reads_ordinary n c ls e z =
-    let f = reads_in n 0 clear c ls e (nothing_in n, nothing_in n) in
-    record {
-      some = z;
-      within = ⊎_elim (f.0.atoms (top (lits c))) (f.1.atoms (top (lits c))) (or_cases (at c.positive (top (lits c))) (at c.negative (top (lits c))) (top_has 64 (lits c) z));
-      pos_fits = f.0.word;
-      neg_fits = f.1.word;
-    }
+reads_ordinary n c ls e z = ordinary_from n n c (omega arith) (reads_in n 0 clear c ls e (nothing_in n)) z

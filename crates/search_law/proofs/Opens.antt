@@ -9,7 +9,7 @@ use Rattle.clause.proofs.Bits.{at_zero}
 use Rattle.store.specs.Held.{Held, Kept, size}
 use Rattle.session.specs.declared.search.Phase.TheVariants.{Undecided}
 use Rattle.session.specs.Searching.{fresh, reason_in}
-use Rattle.session.specs.Calls.{opening}
+use Rattle.session.specs.Calls.{due, opening}
 use Rattle.search_law.specs.Law.{Inv, OpenLaw}
 
 no_reasons : (p : ℕ) → reason_in (replicate 64 None) p ≡ None
@@ -44,6 +44,10 @@ begins n h k l z = record {
   entries = omega arith;
   settings = omega arith;
 }
+
+-- the store is empty
+pub none_held : (n : ℕ) (h : Held) → due n h ≡ None → size h ≡ 0
+none_held n h e = eqb-true (size h) 0 (none_due (outside 64 n) (eqb h.places 0) (eqb (size h) 0) e).1
 
 pub open_law : OpenLaw
 open_law n h k e =

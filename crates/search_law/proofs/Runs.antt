@@ -1,6 +1,5 @@
 -- A run keeps the invariant, says what holds, and an ample budget is not used up.
-use Rattle.std.proofs.Common.{◌≡◌, ℕ, zero, suc, ◌+◌, ◌<◌, ◌≤◌, Bool, true, false, not, ◌&&◌, ◌||◌, ltb, List, ◌++◌, Some, None, Ok, Err, Option, Result, sym, refl, ap, ◌∙◌, subst, inl, inr, ⊎_elim, arith}
-use Rattle.std.proofs.lemmas.List.{append_assoc}
+use Rattle.std.proofs.Common.{◌≡◌, ℕ, zero, suc, ◌+◌, ◌<◌, ◌≤◌, Bool, true, false, not, ◌&&◌, ◌||◌, ltb, List, Some, None, Ok, Err, Option, Result, sym, refl, ap, ◌∙◌, subst, inl, inr, ⊎_elim, arith}
 use Rattle.std.proofs.lemmas.Bool.{cases_eq, cases_lt, cases_Bool, both_ways, ltb-true, ltb-false}
 use Rattle.clause.specs.declared.words.Clause.{Clause}
 use Rattle.clause.specs.Words.{at}
@@ -25,7 +24,7 @@ use Rattle.search_law.proofs.Growth.{uncut, relabel}
 use Rattle.search_law.proofs.Least.{parts}
 use Rattle.search_law.proofs.Peaks.{peak_atoms}
 use Rattle.search_law.proofs.Resolve.{no_lit}
-use Rattle.search_law.proofs.Steps.{todo, left, Made, Fine, still, step_fine}
+use Rattle.search_law.proofs.Steps.{todo, left, Made, Fine, still, onward_on, step_fine}
 use Rattle.search_law.specs.Law.{Inv, Reason, Onward, Right, Ran, RunLaw, ShowLaw, Exact, ample, Says, last_one}
 use Rattle.search_law.specs.Models.{Makes, Models, Least}
 
@@ -99,14 +98,6 @@ RunAs acc h s t b h' s' (Err e) = ⊥
 
 abbrev Run : List Clause → Held → Search → Tally → ℕ → After (Result Ended Told) → Type 0
 Run acc h s t b a = RunAs acc h s t b a.held a.search a.answer
-
-onward_on : (h : Held) (s : Search) (h₁ : Held) (s₁ : Search) (h₂ : Held) (s₂ : Search) → Onward h s h₁ s₁ → Onward h₁ s₁ h₂ s₂ → Onward h s h₂ s₂
-onward_on h s h₁ s₁ h₂ s₂ x y = record {
-  atoms = y.atoms ∙ x.atoms;
-  places = y.places ∙ x.places;
-  more = x.more ++ y.more;
-  grown = y.grown ∙ ap (λ es. es ++ y.more) x.grown ∙ append_assoc h.entries x.more y.more;
-}
 
 more_next : (m n : ℕ) → m ≤ n → more n ≡ n + 1 → more m ≡ m + 1
 more_next m n l e = omega arith

@@ -1,6 +1,6 @@
 -- A step keeps the invariant, or is stopped for want of a place, and leaves less to do.
-use Rattle.std.proofs.Common.{◌≡◌, ℕ, suc, ◌+◌, ◌-◌, ◌*◌, ◌<◌, ◌≤◌, Bool, true, false, eqb, List, [], ◌∷◌, Ok, Err, Option, Result, sym, refl, ap, subst, arith}
-use Rattle.std.proofs.lemmas.List.{append-nil, length_push}
+use Rattle.std.proofs.Common.{◌≡◌, ℕ, suc, ◌+◌, ◌-◌, ◌*◌, ◌<◌, ◌≤◌, Bool, true, false, eqb, List, [], ◌∷◌, ◌++◌, Ok, Err, Option, Result, sym, refl, ap, ◌∙◌, subst, arith}
+use Rattle.std.proofs.lemmas.List.{append-nil, append_assoc, length_push}
 use Rattle.std.proofs.lemmas.Bool.{eqb-true, eqb-false}
 use Rattle.clause.specs.declared.words.Clause.{Clause}
 use Rattle.clause.specs.Words.{at}
@@ -55,6 +55,15 @@ StepsFine acc h s a = Fine acc h s a.held a.search a.answer
 -- the entries as they were
 pub still : (h : Held) (s s' : Search) → s'.atoms ≡ s.atoms → Onward h s h s'
 still h s s' e = record { atoms = e; places = refl; more = []; grown = sym (append-nil h.entries) }
+
+-- one call after the other
+pub onward_on : (h : Held) (s : Search) (h₁ : Held) (s₁ : Search) (h₂ : Held) (s₂ : Search) → Onward h s h₁ s₁ → Onward h₁ s₁ h₂ s₂ → Onward h s h₂ s₂
+onward_on h s h₁ s₁ h₂ s₂ x y = record {
+  atoms = y.atoms ∙ x.atoms;
+  places = y.places ∙ x.places;
+  more = x.more ++ y.more;
+  grown = y.grown ∙ ap (λ es. es ++ y.more) x.grown ∙ append_assoc h.entries x.more y.more;
+}
 
 falls : (f n x y : ℕ) → x ≤ n → 0 < y → f * n + x < suc f * n + y
 falls f n x y h k = omega arith

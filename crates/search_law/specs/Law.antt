@@ -1,10 +1,12 @@
 -- What every call of a session keeps, and what its answers say of the accepted clauses.
 use Rattle.std.specs.Prelude.{◌≡◌, ℕ, suc, ◌+◌, ◌-◌, ◌*◌, ◌^◌, ◌<◌, ◌≤◌, true, false, ◌⊎◌, List, [], ◌∷◌, ◌++◌, length, ℤ, Some, None, Ok, Err, Result, ◌≢◌}
+use Rattle.std.specs.List.{AllByRecursion}
 use Rattle.clause.specs.declared.words.Clause.{Clause}
 use Rattle.clause.specs.Words.{at, with_atom}
 use Rattle.clause.specs.Clauses.{Literals, lits, lit, makes, top, resolvent}
 use Rattle.clause.specs.Reading.{reads, clear}
 use Rattle.clause.specs.Refusals.{Told, refused}
+use Rattle.dimacs.specs.Walk.{Parsed, parse}
 use Rattle.store.specs.declared.entry.Entry.{Entry}
 use Rattle.store.specs.Held.{Held, Kept, size, clause_at, entry_at, found, full, pushed, after_put, put_answer, least_false}
 use Rattle.session.specs.declared.search.Search.{Search}
@@ -12,7 +14,7 @@ use Rattle.session.specs.declared.search.Phase.{Phase}
 use Rattle.session.specs.declared.search.Phase.TheVariants.{Unopened, Undecided, Satisfied, Refuted}
 use Rattle.session.specs.Reports.{Said, satisfiable, unsatisfiable, stopped, Ended, more}
 use Rattle.session.specs.Searching.{reason_of}
-use Rattle.session.specs.Calls.{due, opened, add, run, shown}
+use Rattle.session.specs.Calls.{due, opened, add, load, run, shown}
 use Rattle.search_law.specs.Models.{Makes, Models, Hopeless, Least, peak}
 
 -- c is a reason of p under v: its highest literal is p, positive, and its others are false
@@ -92,6 +94,26 @@ Added acc h s ls h' s' (Err e) = (h' ≡ h) × (s' ≡ s)
 abbrev pub AddLaw : Type 0
 AddLaw = (acc : List Clause) (h : Held) (s : Search) → Inv acc h s → (ls : List ℤ) →
     Added acc h s ls (add h s ls).held (add h s ls).search (add h s ls).answer
+
+-- the clauses cs were accepted one after the other: each of them is held
+pub record Loading (acc : List Clause) (h : Held) (s : Search) (cs : List Clause) (h' : Held) (s' : Search) : Type 0 where
+  pub keeps : Inv (acc ++ cs) h' s'
+  pub onward : Onward h s h' s'
+  pub taken : AllByRecursion (λ (c : Clause). (k : ℕ) × (found h' c ≡ Some k)) cs
+
+-- a load is refused for its text, or for want of a place for each of its clauses
+abbrev pub Unfit : Held → Result Parsed Told → Told → Type 0
+Unfit h (Ok p) e = (e ≡ refused 10 0) × (h.places - size h < length p.clauses)
+Unfit h (Err x) e = e ≡ x
+
+-- a load that answers a number accepts so many clauses, all those of its text; one that is refused alters nothing
+abbrev pub Loaded : List Clause → Held → Search → List ℕ → Held → Search → Result ℕ Told → Type 0
+Loaded acc h s bs h' s' (Ok m) = (p : Parsed) × (parse s.atoms bs ≡ Ok p) × (m ≡ length p.clauses) × Loading acc h s p.clauses h' s'
+Loaded acc h s bs h' s' (Err e) = (h' ≡ h) × (s' ≡ s) × Unfit h (parse s.atoms bs) e
+
+abbrev pub LoadLaw : Type 0
+LoadLaw = (acc : List Clause) (h : Held) (s : Search) → Inv acc h s → (bs : List ℕ) →
+    Loaded acc h s bs (load h s bs).held (load h s bs).search (load h s bs).answer
 
 -- what the end of a run says
 abbrev pub Right : List Clause → Held → Search → Said → Type 0
