@@ -1,4 +1,4 @@
-// The answer call for hosts written in C.
+// The answer call as hosts written in C call it. A library exports nothing: the static library `answer_c` does, under the same name.
 ghost use Rattle.std.specs.Prelude.{◌≡◌, ℕ, ◌<◌, ◌≤◌, length, pos, negsuc};
 ghost use Rattle.answer.specs.Answered.{answered};
 ghost use Rattle.answer.specs.Printed.{wrote};
