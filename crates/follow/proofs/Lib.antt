@@ -1,2 +1,3 @@
-pub mod Walks
-pub mod Attending
+pub mod Untils
+pub mod Commons
+pub mod Following

@@ -1,6 +1,4 @@
-pub mod Capped
 pub mod Gathered
 pub mod Phrases
-pub mod Cuts
-pub mod Spacing
+pub mod Lining
 pub mod Scripting

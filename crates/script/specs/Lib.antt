@@ -1,4 +1,4 @@
-pub mod Numbers
+pub mod Terms
 pub mod Requests
 pub mod Lines
 pub mod Scripts

@@ -1,6 +1,7 @@
 // Scripts: lines of words, and the requests that they are.
 #![tactic(auto)]
 
-pub mod number;
+pub mod reading;
 pub mod request;
+pub mod term;
 pub mod text;

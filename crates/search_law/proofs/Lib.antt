@@ -2,6 +2,7 @@ pub mod Least
 pub mod Resolve
 pub mod Entries
 pub mod Reasons
+pub mod Sources
 pub mod Peaks
 pub mod Counts
 pub mod Settings

@@ -1,3 +1,4 @@
 pub mod Models
+pub mod Sources
 pub mod Law
 pub mod Texts

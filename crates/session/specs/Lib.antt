@@ -1,4 +1,2 @@
-pub mod Reports
-pub mod Searching
 pub mod Steps
 pub mod Calls

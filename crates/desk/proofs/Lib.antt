@@ -1,0 +1,4 @@
+pub mod Meanings
+pub mod Walks
+pub mod Tracing
+pub mod Attending

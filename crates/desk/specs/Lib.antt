@@ -1,0 +1,4 @@
+pub mod Literals
+pub mod Readings
+pub mod Desks
+pub mod Written

@@ -1,0 +1,3 @@
+pub mod Capped
+pub mod Cuts
+pub mod Spacing
