@@ -1,7 +1,7 @@
 """Compares the program `follow` with the model of reference.py. Usage: scripts.py PROGRAM [FOLDER]
 
 The scripts *.txt of FOLDER must print their *.out, and so must the model; then come scripts made here, each the same at every run:
-one in which derived clauses take the last of 16,384 places of each kind of store, and many of random requests, good and bad.
+one in which derived clauses take the last of 16,384 places, and many of random requests, good and bad.
 """
 import glob
 import os
@@ -34,35 +34,21 @@ def number(word, most):
     return min(int(word), most) if word and set(word) <= DIGITS else None
 
 
-def is_numeric(word):
-    """Begins with a digit, or with a minus and a digit."""
-    return word.removeprefix("-")[:1] in DIGITS
-
-
 def literal(word):
     minus = word.startswith("-")
     n = number(word[1:] if minus else word, 2 ** 31 if minus else 2 ** 31 - 1)
     return None if n is None else -n if minus else n
 
 
-def term(word):
-    """What a word of add means: a literal, or a name with its sign; nothing where it is a number that is not well formed."""
-    if is_numeric(word):
-        return literal(word)
-    return (word.startswith("-"), word.removeprefix("-"))
-
-
 def request(words):
     """What the words of a line ask for, or nothing."""
     verb, rest = words[0], words[1:]
-    if verb == "open" and len(rest) == 3 and rest[2] in ("row", "skip", "both"):
+    if verb == "open" and len(rest) == 3 and rest[2] == "row":
         n, p = number(rest[0], 2 ** 32 - 1), number(rest[1], 2 ** 32 - 1)
         return None if n is None or p is None or p > 20000 else (verb, n, p)
     if verb == "add":
-        terms = [term(w) for w in rest]
-        return None if None in terms else (verb, terms)
-    if verb == "name" and len(rest) == 1:
-        return (verb, rest[0])
+        literals = [literal(w) for w in rest]
+        return None if None in literals else (verb, literals)
     if verb in ("run", "walk") and len(rest) == 1:
         n = number(rest[0], 2 ** 32 - 1)
         return None if n is None else (verb, n)
@@ -86,7 +72,6 @@ def spelled(literals):
 class Follower:
     def __init__(self):
         self.session, self.due, self.items, self.said = None, None, 0, []
-        self.names, self.text = [], None
 
     def item(self, call, answer):
         self.items += 1
@@ -94,7 +79,7 @@ class Follower:
 
     def open(self, call, atoms, places):
         places = min(places, 16384)
-        self.session, self.items, self.names = Session(atoms, places), 0, []
+        self.session, self.items = Session(atoms, places), 0
         self.due = reference.Refused(1) if not 1 <= atoms <= 64 else reference.Refused(2) if places == 0 else None
         self.item(call, refusal(self.due) if self.due else "opened")
 
@@ -124,36 +109,14 @@ class Follower:
             return "derive empty from %d and %d; %s" % (*s.kept, outcome(end))
         return outcome(end)
 
-    def atom(self, name):
-        """The atom of a name: the one that it has, or the next."""
-        if not 1 <= len(name.encode()) <= 16 or not all(0x21 <= b <= 0x7e for b in name.encode()):
-            raise reference.Refused(19)
-        if name not in self.names:
-            if len(self.names) == 64:
-                raise reference.Refused(20)
-            self.names.append(name)
-        return self.names.index(name) + 1
-
     def line(self, place, line):
-        words = line.removesuffix(b"\r").decode(errors="replace").split(" ")
-        words = [w for w in words if w]
-        if self.text is not None:
-            if words == ["end"]:
-                (begun, text), self.text = self.text, None
-                self.asked(begun, "load", ("load", text))
-            else:
-                self.text = (self.text[0], self.text[1] + line.decode(errors="replace").encode() + b"\n")
-            return
-        if words == ["load"]:
-            self.text = (place, b"")
-            return
         if line.startswith(b"#"):
             return
+        words = line.removesuffix(b"\r").decode(errors="replace").split(" ")
+        words = [w for w in words if w]
         if not words:
             return
-        self.asked(place, " ".join(words), request(words))
-
-    def asked(self, place, call, asked):
+        asked, call = request(words), " ".join(words)
         if asked is None:
             self.said.append("line %d: not understood" % place)
         elif asked[0] == "open":
@@ -163,28 +126,8 @@ class Follower:
         else:
             getattr(self, "ask_" + asked[0])(call, *asked[1:])
 
-    def ask_add(self, call, terms):
-        def add(literals):
-            if self.due:
-                raise self.due
-            return "entry %d" % self.session.add(literals)
-        try:
-            literals = []
-            for t in terms:
-                literals.append(t if isinstance(t, int) else -self.atom(t[1]) if t[0] else self.atom(t[1]))
-            answer = add(literals)
-        except reference.Refused as e:
-            answer = refusal(e)
-        self.item(call, answer)
-
-    def ask_name(self, call, name):
-        try:
-            self.said.append("atom %d" % self.atom(name))
-        except reference.Refused as e:
-            self.said.append(refusal(e))
-
-    def ask_load(self, call, text):
-        self.ask(call, lambda: "%d clauses" % self.session.load(text))
+    def ask_add(self, call, literals):
+        self.ask(call, lambda: "entry %d" % self.session.add(literals))
 
     def ask_run(self, call, budget):
         def run():
@@ -212,8 +155,6 @@ def followed(script):
     follower = Follower()
     for place, line in enumerate(script.split(b"\n"), 1):
         follower.line(place, line)
-    if follower.text is not None:
-        follower.said.append("line %d: not understood" % follower.text[0])
     return "".join(l + "\n" for l in follower.said).encode()
 
 
@@ -222,27 +163,12 @@ def last_places():
     filler = [" ".join(["add -64"] + ["%d" % (a if k >> (a - 4) & 1 else -a) for a in range(4, 18)]) for k in range(16384)]
     filler = [filler[k * 7919 % 16384] for k in range(16379)]
     search = ["add 1 3", "add -3 2", "add -2"]
-    for places in ("16384 both", "16383 row", "16383 skip"):
-        yield from ["open 64 %s" % places, *filler, *search, "counts", "walk 100", "show", "counts", "add 5", *search, *filler[::997], filler[-1], "run 2000000", "counts"]
+    for places in ("16384", "16383"):
+        yield from ["open 64 %s row" % places, *filler, *search, "counts", "walk 100", "show", "counts", "add 5", *search, *filler[::997], filler[-1], "run 2000000", "counts"]
 
 
 def word(rng):
-    return rng.choice(["", "row", "skip", "both", "load", "end", "abcdefghijklmnop", "abcdefghijklmnopq", "-abcdefghijklmnop", "~", "--x", "-9x", "x", "-", "--1", "+2", "1,2", "0x1", "-0", "00", "2000001", "4294967296", "99999999999999999999", "-2147483648", "\t1", "é", "#"])
-
-
-def random_text(rng, atoms):
-    """A text, mostly sound, and its end, mostly there."""
-    n = rng.choice([atoms] * 6 + [atoms + 1, 0])
-    clauses = [[rng.choice((1, -1)) * a for a in rng.sample(range(1, atoms + 1), rng.randint(1, min(3, atoms)))] for _ in range(rng.randint(0, 5))]
-    lines = rng.choice([[], ["c a comment"], ["c load", ""]]) + ["p cnf %d %d" % (n, len(clauses) + (rng.random() < 0.1))]
-    for clause in clauses:
-        clause = clause + [0] if rng.random() < 0.95 else clause + [-clause[0], 0]
-        lines.append(rng.choice([" ", "  ", "\t"]).join(map(str, clause)) + rng.choice([""] * 12 + ["\r", " x", " end"]))
-    return ["load"] + lines + rng.choice([["end"]] * 12 + [[" end \r"], ["end 1", "end"], []])
-
-
-def names(rng):
-    return rng.choice(["closed", "open", "region_eu", "region_us", "a", "b", "A", "!", "~~", "x" * 16, "x" * 17])
+    return rng.choice(["", "row", "skip", "x", "-", "--1", "+2", "1,2", "0x1", "-0", "00", "2000001", "4294967296", "99999999999999999999", "-2147483648", "\t1", "é", "#"])
 
 
 def random_script(rng):
@@ -253,14 +179,10 @@ def random_script(rng):
         literals = [rng.choice((1, -1)) * rng.randint(1, atoms) for _ in range(rng.choice([1, 1, 2, 2, 3, 4]))]
         if kind < 0.05:
             n = rng.choice([atoms] * 6 + [0, 65, 4294967295, 99999999999])
-            lines.append("open %d %d %s" % (n, rng.choice([0, 3, 8, 40, 40, 40, 20000, 20001]), rng.choice(["row", "skip", "both"])))
+            lines.append("open %d %d row" % (n, rng.choice([0, 3, 8, 40, 40, 40, 20000, 20001])))
         elif kind < 0.10:
-            lines.append(" ".join([rng.choice(["open", "add", "run", "walk", "show", "counts", "name", "load", "Add", ""])] + [word(rng) for _ in range(rng.randint(0, 3))]))
-        elif kind < 0.12:
-            lines += random_text(rng, atoms)
-        elif kind < 0.20:
-            lines.append(rng.choice(["name " + names(rng), " ".join(["add"] + [rng.choice(["", "-"]) + names(rng) for _ in range(rng.randint(1, 3))])]))
-        elif kind < 0.24:
+            lines.append(" ".join([rng.choice(["open", "add", "run", "walk", "show", "counts", "Add", ""])] + [word(rng) for _ in range(rng.randint(0, 3))]))
+        elif kind < 0.15:
             lines.append("add " + " ".join(map(str, literals + [rng.choice([0, atoms + 1, -literals[0], -2147483648])])))
         elif kind < 0.65:
             lines.append("  ".join(["add"] + list(map(str, literals))) + rng.choice(["", "", " ", "\r"]))
@@ -270,7 +192,7 @@ def random_script(rng):
             lines.append("walk %d" % rng.choice([0, 1, 3, 10, 4294967295]))
         else:
             lines.append(rng.choice(["show", "counts", "", "# a comment", " # none"]))
-    return ["open %d %d %s" % (atoms, rng.choice([4, 10, 40, 200]), rng.choice(["row", "skip", "both"]))] * rng.randint(0, 1) + lines
+    return ["open %d %d row" % (atoms, rng.choice([4, 10, 40, 200]))] * rng.randint(0, 1) + lines
 
 
 def main():

@@ -6,7 +6,7 @@ use Rattle.dimacs.specs.declared.heading.Heading.{Heading}
 use Rattle.dimacs.specs.Walk.{Parsed, parse, counts}
 use Rattle.store.specs.declared.entry.Entry.{Entry}
 use Rattle.store.specs.Held.{Held}
-use Rattle.search.specs.declared.search.Search.{Search}
+use Rattle.session.specs.declared.search.Search.{Search}
 use Rattle.session.specs.Steps.{After}
 use Rattle.session.specs.Calls.{opened, load}
 use Rattle.answer.specs.Answered.{answered, parsed_as, loaded, faulted, vacant}

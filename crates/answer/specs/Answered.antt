@@ -3,8 +3,8 @@ use Rattle.std.specs.Prelude.{ℕ, ◌+◌, ◌*◌, ◌/◌, cond, List, [], �
 use Rattle.clause.specs.Refusals.{Told, refused}
 use Rattle.dimacs.specs.Walk.{Parsed, parse}
 use Rattle.store.specs.Held.{Held}
-use Rattle.search.specs.declared.search.Search.{Search}
-use Rattle.search.specs.Reports.{Said, satisfiable, unsatisfiable, stopped, Ended}
+use Rattle.session.specs.declared.search.Search.{Search}
+use Rattle.session.specs.Reports.{Said, satisfiable, unsatisfiable, stopped, Ended}
 use Rattle.session.specs.Steps.{After}
 use Rattle.session.specs.Calls.{opened, load, run}
 use Rattle.answer.specs.Printed.{counts_line, fault_line, values_line}

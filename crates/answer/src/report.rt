@@ -1,14 +1,14 @@
 // Prints how a session ended.
 ghost use Rattle.std.specs.Prelude.{◌≡◌, ℕ, ◌+◌, ◌*◌, ◌/◌, ◌<◌, ◌≤◌, length};
 ghost use Rattle.clause.specs.Refusals.{told};
-ghost use Rattle.search.specs.Reports.{said};
+ghost use Rattle.session.specs.Reports.{said};
 ghost use Rattle.answer.specs.Answered.{percent, counted, valued, reported, faulted, status};
 ghost use Rattle.answer.specs.Printed.{wrote};
 
 use crate::print::{put, put_counts, put_fault, put_values};
 use clause::refusal::Refusal;
-use search::report::Outcome;
-use search::search::Search;
+use session::report::Outcome;
+use session::search::Search;
 
 // 100 times size by places, rounded half up; 0 where there are no places.
 pub(crate) fn percent_of(size: u16, places: u16) -> u64

@@ -4,9 +4,9 @@ use Rattle.clause.specs.Clauses.{Literals}
 use Rattle.clause.specs.Order.{rank}
 use Rattle.clause.specs.Refusals.{Told, refused}
 use Rattle.store.specs.Held.{Held}
-use Rattle.search.specs.declared.search.Search.{Search}
-use Rattle.search.specs.declared.search.Phase.TheVariants.{Refuted}
-use Rattle.search.specs.Reports.{Said, satisfiable, unsatisfiable, stopped, Ended}
+use Rattle.session.specs.declared.search.Search.{Search}
+use Rattle.session.specs.declared.search.Phase.TheVariants.{Refuted}
+use Rattle.session.specs.Reports.{Said, satisfiable, unsatisfiable, stopped, Ended}
 use Rattle.session.specs.Steps.{After}
 use Rattle.session.specs.Calls.{opened, add, run, shown}
 

@@ -1,3 +1,2 @@
-pub mod Untils
-pub mod Commons
-pub mod Following
+pub mod Walks
+pub mod Attending

@@ -1,1 +1,1 @@
-pub mod Follows
+pub mod Sessions

@@ -1,10 +1,7 @@
 // Follows a script: reads requests from standard input and prints what each of them answered.
 #![tactic(auto)]
 
-mod merge;
-mod opened;
-mod transcript;
-mod until;
+mod attend;
 
 use std::io;
 use std::io::Read;
@@ -14,10 +11,6 @@ fn main(rt: HostRuntime) -> io::Result<()> {
     let mut bytes = Vec::new(heap);
     rt.stdin().read_to_end(&mut bytes)?;
     let text = String::from_utf8_lossy(heap, &bytes)?;
-    let lines = script::reading::read_script(heap, text.as_str())?;
-    let printed = transcript::transcript(heap, &lines)?;
-    for line in &printed {
-        rt.println(line)?;
-    }
-    Ok(())
+    let lines = script::text::read_script(heap, text.as_str())?;
+    attend::follow(&rt, &lines)
 }

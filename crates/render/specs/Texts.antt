@@ -5,12 +5,12 @@ use Rattle.std.specs.Fmt.{signed_decimal}
 use Rattle.clause.specs.declared.words.Clause.{Clause}
 use Rattle.clause.specs.Refusals.{Told}
 use Rattle.clause.specs.Words.{at}
-use Rattle.search.specs.declared.search.Search.{Search}
-use Rattle.search.specs.Reports.{Said, satisfiable, unsatisfiable, stopped, Ended}
-use Rattle.words.specs.Lines.{spaced}
+use Rattle.session.specs.declared.search.Search.{Search}
+use Rattle.session.specs.Reports.{Said, satisfiable, unsatisfiable, stopped, Ended}
+use Rattle.script.specs.Lines.{spaced}
 use Rattle.reply.specs.declared.action.Action.{Action}
 use Rattle.reply.specs.declared.action.Action.TheVariants.{Set, Derive, Refute}
-use Rattle.reply.specs.Replies.{Reply, opened, entered, counted, ended, stepped, valued, traced, denied}
+use Rattle.reply.specs.Replies.{Reply, opened, entered, ended, stepped, valued, denied}
 
 -- the literal of c at atom a, if it has one
 abbrev pub literal_at : Clause → ℕ → Option ℤ
@@ -62,11 +62,9 @@ stepped_text None o = said_text o
 abbrev pub reply_text : Reply → List ℕ
 reply_text opened = codes "opened"
 reply_text (entered k) = codes "entry " ++ decimal k
-reply_text (counted m) = decimal m ++ codes " clauses"
 reply_text (ended e) = ended_text e
 reply_text (stepped a o) = stepped_text a o
 reply_text (valued v n) = spelled (true_of n v)
-reply_text (traced n) = decimal n ++ codes " bytes"
 reply_text (denied t) = told_text t
 
 -- an item: its number, the call, and what it answered

@@ -3,7 +3,7 @@
 
 ghost use Rattle.std.specs.Prelude.{◌≡◌, ℕ, ◌≤◌, IfOk, string_bytes};
 ghost use Rattle.clause.specs.Refusals.{told};
-ghost use Rattle.search.specs.Reports.{said};
+ghost use Rattle.session.specs.Reports.{said};
 ghost use Rattle.reply.specs.Replies.{end_of, reply_of};
 ghost use Rattle.render.specs.Texts.{literal_at, literals_of, true_at, true_of, spelled, told_text, said_text, ended_text, action_text, stepped_text, reply_text, item_text, counts_text};
 
@@ -12,10 +12,10 @@ use clause::truth::stands;
 use clause::words::Clause;
 use reply::action::Action;
 use reply::answer::Answer;
-use search::report::{Outcome, Report};
-use search::search::Search;
+use script::text::append;
+use session::report::{Outcome, Report};
+use session::search::Search;
 use std::alloc::{AllocError, Global};
-use words::line::append;
 
 // The literal of the clause at the atom, if it has one.
 fn literal_at(clause: &Clause, atom: u32) -> Option<i32>
@@ -32,7 +32,7 @@ fn literal_at(clause: &Clause, atom: u32) -> Option<i32>
 }
 
 // The literals of the clause, in order of atoms.
-pub fn literals_of(heap: Global, clause: &Clause) -> Result<Vec<i32>, AllocError>
+fn literals_of(heap: Global, clause: &Clause) -> Result<Vec<i32>, AllocError>
     ensures { IfOk result (λ v. v.items ≡ literals_of clause.now) }
 {
     let mut literals = Vec::new(heap);
@@ -69,7 +69,7 @@ fn true_of(heap: Global, atoms: u32, valuation: u64) -> Result<Vec<i32>, AllocEr
 }
 
 // The literals with one space between each two.
-pub fn spelled(heap: Global, literals: &[i32]) -> Result<String, AllocError>
+fn spelled(heap: Global, literals: &[i32]) -> Result<String, AllocError>
     ensures { IfOk result (λ s. string_bytes s ≡ spelled literals.now) }
 {
     let mut text = String::new(heap);
@@ -80,8 +80,7 @@ pub fn spelled(heap: Global, literals: &[i32]) -> Result<String, AllocError>
     Ok(text)
 }
 
-// A refusal by its number, place and layer.
-pub fn refusal_text(heap: Global, refusal: Refusal) -> Result<String, AllocError>
+fn refusal_text(heap: Global, refusal: Refusal) -> Result<String, AllocError>
     ensures { IfOk result (λ s. string_bytes s ≡ told_text (told refusal)) }
 {
     let number = refusal.number();
@@ -150,11 +149,9 @@ fn answer_text(heap: Global, answer: Answer) -> Result<String, AllocError>
     match answer {
         Answer::Opened => String::from_str(heap, "opened"),
         Answer::Entry(number) => format!(in heap; "entry {number}"),
-        Answer::Loaded(count) => format!(in heap; "{count} clauses"),
         Answer::Ran(report) => report_text(heap, report),
         Answer::Stepped(action, outcome) => stepped_text(heap, action, outcome),
         Answer::Shown(valuation, atoms) => spelled(heap, &true_of(heap, atoms, valuation)?),
-        Answer::Traced(count) => format!(in heap; "{count} bytes"),
         Answer::Refused(refusal) => refusal_text(heap, refusal),
     }
 }

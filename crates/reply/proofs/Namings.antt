@@ -5,9 +5,9 @@ use Rattle.std.proofs.lemmas.Bool.{cond-true, cases_Bool, cases_eq, eq-eqb, ne_e
 use Rattle.clause.specs.Words.{at, with_atom}
 use Rattle.clause.proofs.Bits.{at_with}
 use Rattle.store.specs.declared.entry.Entry.{Entry}
-use Rattle.search.specs.declared.report.Tally.{Tally}
-use Rattle.search.specs.declared.search.Search.{Search}
-use Rattle.search.specs.Searching.{reason_in, reason_of, setting}
+use Rattle.session.specs.declared.report.Tally.{Tally}
+use Rattle.session.specs.declared.search.Search.{Search}
+use Rattle.session.specs.Searching.{reason_in, reason_of, setting}
 use Rattle.reply.specs.declared.action.Action.{Action}
 use Rattle.reply.specs.Actions.{gained_to, set_by, set_in, action_of, NamesSettings}
 use Rattle.reply.proofs.Gains.{found, absent, old}

@@ -2,11 +2,11 @@
 use Rattle.std.specs.Prelude.{◌≡◌, ℕ, zero, suc, ◌<◌, ◌≤◌, false, cond, not, ◌&&◌, length, Some, None, Option, nat_lt}
 use Rattle.clause.specs.Words.{at}
 use Rattle.store.specs.declared.entry.Entry.{Entry}
-use Rattle.search.specs.declared.report.Tally.{Tally}
-use Rattle.search.specs.declared.search.Phase.{Phase}
-use Rattle.search.specs.declared.search.Phase.TheVariants.{Unopened, Undecided, Satisfied, Refuted}
-use Rattle.search.specs.declared.search.Search.{Search}
-use Rattle.search.specs.Searching.{reason_of, setting}
+use Rattle.session.specs.declared.report.Tally.{Tally}
+use Rattle.session.specs.declared.search.Phase.{Phase}
+use Rattle.session.specs.declared.search.Phase.TheVariants.{Unopened, Undecided, Satisfied, Refuted}
+use Rattle.session.specs.declared.search.Search.{Search}
+use Rattle.session.specs.Searching.{reason_of, setting}
 use Rattle.reply.specs.declared.action.Action.{Action}
 use Rattle.reply.specs.declared.action.Action.TheVariants.{Set, Derive, Refute}
 

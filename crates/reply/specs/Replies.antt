@@ -2,26 +2,24 @@
 use Rattle.std.specs.Prelude.{ℕ, Bool, false, Ok, Err, Option, Result, ◌==◌}
 use Rattle.clause.specs.Refusals.{Told, told}
 use Rattle.store.specs.Held.{Held, size, entry_at}
-use Rattle.search.specs.declared.report.Report.{Report}
-use Rattle.search.specs.declared.search.Search.{Search}
+use Rattle.session.specs.declared.report.Report.{Report}
+use Rattle.session.specs.declared.search.Search.{Search}
 use Rattle.session.specs.Calls.{run}
-use Rattle.search.specs.Reports.{Said, satisfiable, unsatisfiable, stopped, said, Ended}
+use Rattle.session.specs.Reports.{Said, satisfiable, unsatisfiable, stopped, said, Ended}
 use Rattle.session.specs.Steps.{After, after}
 use Rattle.reply.specs.declared.action.Action.{Action}
 use Rattle.reply.specs.declared.answer.Answer.{Answer}
-use Rattle.reply.specs.declared.answer.Answer.TheVariants.{Opened, Entry, Loaded, Ran, Stepped, Shown, Traced, Refused}
+use Rattle.reply.specs.declared.answer.Answer.TheVariants.{Opened, Entry, Ran, Stepped, Shown, Refused}
 use Rattle.reply.specs.Actions.{action_of}
 
--- an answer by its values: an opening, the number of an entry, how many clauses a text has, the end of a run, a step with the end of its run,
--- a valuation of so many atoms, how many bytes a trace has, or a refusal
+-- an answer by its values: an opening, the number of an entry, the end of a run, a step with the end of its run,
+-- a valuation of so many atoms, or a refusal
 pub data Reply : Type 0 where
   opened : Reply
   entered : ℕ → Reply
-  counted : ℕ → Reply
   ended : Ended → Reply
   stepped : Option Action → Said → Reply
   valued : ℕ → ℕ → Reply
-  traced : ℕ → Reply
   denied : Told → Reply
 
 abbrev pub end_of : Report → Ended
@@ -30,20 +28,14 @@ end_of r = record { outcome = said r.outcome; made = r.made }
 abbrev pub reply_of : Answer → Reply
 reply_of Opened = opened
 reply_of (Entry k) = entered k
-reply_of (Loaded m) = counted m
 reply_of (Ran r) = ended (end_of r)
 reply_of (Stepped a o) = stepped a (said o)
 reply_of (Shown v n) = valued v n
-reply_of (Traced n) = traced n
 reply_of (Refused e) = denied (told e)
 
 abbrev pub add_reply : Result ℕ Told → Reply
 add_reply (Ok k) = entered k
 add_reply (Err t) = denied t
-
-abbrev pub load_reply : Result ℕ Told → Reply
-load_reply (Ok m) = counted m
-load_reply (Err t) = denied t
 
 abbrev pub run_reply : Result Ended Told → Reply
 run_reply (Ok e) = ended e
@@ -76,9 +68,7 @@ spent_said (stopped t) = t.number == 14
 abbrev pub spent : Reply → Bool
 spent opened = false
 spent (entered k) = false
-spent (counted m) = false
 spent (ended e) = spent_said e.outcome
 spent (stepped a o) = spent_said o
 spent (valued v n) = false
-spent (traced n) = false
 spent (denied t) = false

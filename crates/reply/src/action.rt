@@ -2,8 +2,8 @@ ghost use Rattle.std.specs.Prelude.{◌≡◌, ℕ};
 ghost use Rattle.reply.specs.Actions.{gained_to, set_in, derived_by, action_of, NamesSettings};
 
 use clause::truth::stands;
-use search::report::Tally;
-use search::search::{Phase, Search};
+use session::report::Tally;
+use session::search::{Phase, Search};
 use store::entry::Entry;
 
 // What a step did: it set an atom by an entry, it derived the entry of a number, or it derived the empty clause from two entries.

@@ -1,22 +1,20 @@
 ghost use Rattle.std.specs.Prelude.{◌≡◌};
-ghost use Rattle.search.specs.Reports.{said};
+ghost use Rattle.session.specs.Reports.{said};
 ghost use Rattle.reply.specs.Replies.{reply_of, spent_said, spent};
 
 use crate::action::Action;
 use clause::refusal::Refusal;
-use search::report::{Outcome, Report};
+use session::report::{Outcome, Report};
 
-// What a request answered: an opening, the number of an entry, how many clauses a text has, a run, a step with the end of its run,
-// a valuation with its count of atoms, how many bytes a trace has, or a refusal.
+// What a request answered: an opening, the number of an entry, a run, a step with the end of its run,
+// a valuation with its count of atoms, or a refusal.
 #[derive(Clone, Copy)]
 pub enum Answer {
     Opened,
     Entry(u16),
-    Loaded(u16),
     Ran(Report),
     Stepped(Option<Action>, Outcome),
     Shown(u64, u32),
-    Traced(usize),
     Refused(Refusal),
 }
 

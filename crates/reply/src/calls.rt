@@ -1,14 +1,14 @@
 ghost use Rattle.std.specs.Prelude.{◌≡◌, ℕ, Bool};
 ghost use Rattle.clause.specs.Refusals.{answer};
-ghost use Rattle.session.specs.Calls.{add, load, run, shown};
-ghost use Rattle.search.specs.Reports.{run_answer};
+ghost use Rattle.session.specs.Calls.{add, run, shown};
+ghost use Rattle.session.specs.Reports.{run_answer};
 ghost use Rattle.session.specs.Steps.{after};
-ghost use Rattle.reply.specs.Replies.{reply_of, add_reply, load_reply, run_reply, show_reply, replied, stepped_once};
+ghost use Rattle.reply.specs.Replies.{reply_of, add_reply, run_reply, show_reply, replied, stepped_once};
 
 use crate::action::action_between;
 use crate::answer::Answer;
 use clause::refusal::Refusal;
-use search::report::Report;
+use session::report::Report;
 use session::session::Session;
 use store::store::ClauseStore;
 
@@ -17,15 +17,6 @@ fn added(number: Result<u16, Refusal>) -> Answer
 {
     match number {
         Ok(number) => Answer::Entry(number),
-        Err(refusal) => Answer::Refused(refusal),
-    }
-}
-
-fn loaded(count: Result<u16, Refusal>) -> Answer
-    ensures { reply_of result ≡ load_reply (answer count) }
-{
-    match count {
-        Ok(count) => Answer::Loaded(count),
         Err(refusal) => Answer::Refused(refusal),
     }
 }
@@ -45,14 +36,6 @@ pub fn add_clause<S: ClauseStore>(session: &mut Session<'_, S>, literals: &[i32]
     ensures made { after (S.held session.new.store.now) session.new.search (reply_of result) ≡ replied add_reply (add (S.held session.old.store.now) session.old.search literals.now) }
 {
     added(session.add(literals))
-}
-
-// The clauses of the text, accepted or refused together.
-pub fn load_text<S: ClauseStore>(session: &mut Session<'_, S>, text: &[u8]) -> Answer
-    ensures named { session.new.store.ghost_name ≡ session.old.store.ghost_name }
-    ensures made { after (S.held session.new.store.now) session.new.search (reply_of result) ≡ replied load_reply (load (S.held session.old.store.now) session.old.search text.now) }
-{
-    loaded(session.load(text))
 }
 
 // A run, told by its counts.

@@ -1,4 +1,6 @@
+pub mod Capped
 pub mod Gathered
 pub mod Phrases
-pub mod Lining
+pub mod Cuts
+pub mod Spacing
 pub mod Scripting

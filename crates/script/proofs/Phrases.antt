@@ -1,9 +1,10 @@
 -- The words of a request, by how many there are.
-use Rattle.std.proofs.Common.{◌≡◌, ℕ, ◌-◌, ◌<◌, List, [], ◌∷◌, map, length, get_or, take, drop, Some, None, Option, refl, ap, ◌∙◌, arith}
+use Rattle.std.proofs.Common.{◌≡◌, ℕ, ◌-◌, ◌<◌, cond, List, [], ◌∷◌, map, length, get_or, take, drop, None, codes, Option, refl, ap, ◌∙◌, arith}
+use Rattle.std.specs.Str.{bytes_eq}
 use Rattle.std.proofs.lemmas.List.{take_rest}
 use Rattle.script.specs.declared.request.Verb.{Verb}
-use Rattle.words.specs.Numbers.{number}
-use Rattle.script.specs.Requests.{alone, opens, lends, kind_of, named, names, asks, asks_for, keyword}
+use Rattle.script.specs.Numbers.{number}
+use Rattle.script.specs.Requests.{alone, opens, lends, asks, asks_for, keyword}
 
 module _ {W : Type 0} (f : W → List ℕ) where
   pub alone_one : (ws : List W) (d : W) → length ws ≡ 1 → number (f (get_or ws 0 d)) ≡ alone (map f ws)
@@ -18,25 +19,13 @@ module _ {W : Type 0} (f : W → List ℕ) where
   alone_none (w ∷ []) n = absurd (n refl)
   alone_none (w ∷ x ∷ ws) n = refl
 
-  pub opens_three : (ws : List W) (d : W) → length ws ≡ 3 → opens (map f ws) ≡ lends (number (f (get_or ws 0 d))) (number (f (get_or ws 1 d))) (kind_of (f (get_or ws 2 d)))
+  pub opens_three : (ws : List W) (d : W) → length ws ≡ 3 → opens (map f ws) ≡ cond (bytes_eq (f (get_or ws 2 d)) (codes "row")) (lends (number (f (get_or ws 0 d))) (number (f (get_or ws 1 d)))) None
   unfolding opens
   opens_three [] d e = absurd (omega arith)
   opens_three (n ∷ []) d e = absurd (omega arith)
   opens_three (n ∷ p ∷ []) d e = absurd (omega arith)
   opens_three (n ∷ p ∷ k ∷ []) d e = refl
   opens_three (n ∷ p ∷ k ∷ x ∷ ws) d e = absurd (omega arith)
-
-  pub names_one : (ws : List W) (d : W) → length ws ≡ 1 → Some (named (f (get_or ws 0 d))) ≡ names (map f ws)
-  unfolding names
-  names_one [] d e = absurd (omega arith)
-  names_one (w ∷ []) d e = refl
-  names_one (w ∷ x ∷ ws) d e = absurd (omega arith)
-
-  pub names_none : (ws : List W) → (length ws ≡ 1 → ⊥) → None ≡ names (map f ws)
-  unfolding names
-  names_none [] n = refl
-  names_none (w ∷ []) n = absurd (n refl)
-  names_none (w ∷ x ∷ ws) n = refl
 
   pub opens_none : (ws : List W) → (length ws ≡ 3 → ⊥) → None ≡ opens (map f ws)
   unfolding opens

@@ -1,4 +1,4 @@
-pub mod Terms
+pub mod Numbers
 pub mod Requests
 pub mod Lines
 pub mod Scripts

@@ -1,37 +1,37 @@
--- A line of a script: its words, and the request that it is.
-use Rattle.std.specs.Prelude.{ℕ, Bool, false, cond, List, [], ◌∷◌, Some, None, string_bytes, Option, ◌==◌, slice_index}
-use Rattle.std.specs.Str.{bytes_eq}
-use Rattle.words.specs.Lines.{words, spaced, trimmed}
-use Rattle.script.specs.declared.text.Line.{Line}
-use Rattle.script.specs.Requests.{Asked, meant, asks}
+-- The words of a line and the lines of a script.
+use Rattle.std.specs.Prelude.{ℕ, cond, List, [], ◌∷◌, ◌==◌}
+use Rattle.std.specs.List.{join_with_byte}
 
--- a line by its values: its number, its words with one space between them, and the request, if it is one
-pub record Numbered : Type 0 where
-  pub number : ℕ
-  pub call : List ℕ
-  pub asked : Option Asked
+-- the byte b before the first of the pieces
+abbrev pub joins : ℕ → List (List ℕ) → List (List ℕ)
+joins b [] = (b ∷ []) ∷ []
+joins b (p ∷ ps) = (b ∷ p) ∷ ps
 
-abbrev pub line_as : Line → Numbered
-line_as l = record { number = l.number; call = string_bytes l.call; asked = meant l.request }
+-- the pieces of a text between its bytes c
+unfoldable pub pieces : ℕ → List ℕ → List (List ℕ)
+pieces c [] = [] ∷ []
+pieces c (b ∷ bs) = cond (b == c) ([] ∷ pieces c bs) (joins b (pieces c bs))
 
--- a comment begins with #
-abbrev pub comment : List ℕ → Bool
-comment bs = slice_index bs 0 == 35
+-- those that are not empty
+unfoldable pub solid : List (List ℕ) → List (List ℕ)
+solid [] = []
+solid ([] ∷ ps) = solid ps
+solid ((b ∷ w) ∷ ps) = (b ∷ w) ∷ solid ps
 
-abbrev pub numbered : ℕ → List (List ℕ) → Option Numbered
-numbered n [] = None
-numbered n (w ∷ ws) = Some (record { number = n; call = spaced (w ∷ ws); asked = asks (w ∷ ws) })
+-- the words of a line lie between its spaces
+abbrev pub words : List ℕ → List (List ℕ)
+words line = solid (pieces 32 line)
 
--- line n, or nothing where it is skipped: a comment, or without a word
-abbrev pub line_of : ℕ → List ℕ → Option Numbered
-line_of n bs = cond (comment bs) None (numbered n (words (trimmed bs)))
+-- a word with a space before it, unless it is the first of its line
+abbrev pub spaced_at : ℕ → List ℕ → List ℕ
+spaced_at i w = cond (i == 0) w (32 ∷ w)
 
--- the words are w alone
-unfoldable pub only : List ℕ → List (List ℕ) → Bool
-only w [] = false
-only w (v ∷ []) = bytes_eq v w
-only w (v ∷ x ∷ ws) = false
+-- words with one space between each two
+abbrev pub spaced : List (List ℕ) → List ℕ
+spaced ws = join_with_byte 32 ws
 
--- the line has the one word w
-abbrev pub says : List ℕ → List ℕ → Bool
-says w bs = only w (words (trimmed bs))
+-- a line without the carriage return that it may end in
+unfoldable pub trimmed : List ℕ → List ℕ
+trimmed [] = []
+trimmed (b ∷ []) = cond (b == 13) [] (b ∷ [])
+trimmed (b ∷ x ∷ bs) = b ∷ trimmed (x ∷ bs)

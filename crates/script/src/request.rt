@@ -1,40 +1,25 @@
-ghost use Rattle.std.specs.Prelude.{◌≡◌, map, IfOk};
+ghost use Rattle.std.specs.Prelude.{◌≡◌, map, IfOk, vec_items};
 ghost use Rattle.std.specs.Option.{option_map};
-ghost use Rattle.script.specs.Terms.{term_as, terms};
-ghost use Rattle.script.specs.Requests.{keyword, kind_of, called, meant, lends, opens, adds, names, ran, walked, alone, nothing, asks_for, asks};
+ghost use Rattle.script.specs.Requests.{keyword, called, meant, lends, opens, adds, ran, walked, alone, nothing, literals, asks_for, asks};
 
-use crate::term::{Term, read_term};
+use crate::number::{literal, number};
 use std::alloc::{AllocError, Global};
-use words::number::number;
-
-// Over which stores a session is opened: an ordered row, a skip list, or a session over each, side by side.
-#[derive(Clone, Copy)]
-pub enum Kind {
-    Row,
-    Skip,
-    Both,
-}
 
 // What a line of a script can ask for: a new session with so many atoms over so many records, or a call on the session.
 #[derive(Drop)]
 pub enum Request {
-    Open(u32, u32, Kind),
+    Open(u32, u32),
     Ask(Call),
 }
 
-// The literals of a clause, a text, a budget, a name, or nothing besides.
+// The literals of a clause, a budget, or nothing besides.
 #[derive(Drop)]
 pub enum Call {
-    Add(Vec<Term>),
-    Load(String),
+    Add(Vec<i32>),
     Run(u32),
     Walk(u32),
     Show,
     Counts,
-    Name(String),
-    Trace,
-    Lines,
-    Check,
 }
 
 // The first word of a request.
@@ -46,10 +31,6 @@ enum Verb {
     Walk,
     Show,
     Counts,
-    Name,
-    Trace,
-    Lines,
-    Check,
 }
 
 fn verb_of(word: &str) -> Option<Verb>
@@ -62,31 +43,16 @@ fn verb_of(word: &str) -> Option<Verb>
         "walk" => Some(Verb::Walk),
         "show" => Some(Verb::Show),
         "counts" => Some(Verb::Counts),
-        "name" => Some(Verb::Name),
-        "trace" => Some(Verb::Trace),
-        "lines" => Some(Verb::Lines),
-        "check" => Some(Verb::Check),
         _ => None,
     }
 }
 
-fn kind_of(word: &str) -> Option<Kind>
-    ensures { result ≡ kind_of word.now }
+// A session with that many atoms over a row of that many records, at most 20,000.
+fn lent(atoms: Option<u32>, places: Option<u32>) -> Option<Request>
+    ensures { meant result ≡ lends atoms places }
 {
-    match word {
-        "row" => Some(Kind::Row),
-        "skip" => Some(Kind::Skip),
-        "both" => Some(Kind::Both),
-        _ => None,
-    }
-}
-
-// A session with that many atoms over that many records, at most 20,000.
-fn lent(atoms: Option<u32>, places: Option<u32>, kind: Option<Kind>) -> Option<Request>
-    ensures { meant result ≡ lends atoms places kind }
-{
-    match (atoms, places, kind) {
-        (Some(n), Some(p), Some(k)) if p <= 20_000 => Some(Request::Open(n, p, k)),
+    match (atoms, places) {
+        (Some(n), Some(p)) if p <= 20_000 => Some(Request::Open(n, p)),
         _ => None,
     }
 }
@@ -97,41 +63,33 @@ fn opening(rest: &[&str]) -> Option<Request>
     let [atoms, places, store] = rest else {
         return None;
     };
-    lent(number(atoms), number(places), kind_of(store))
+    if *store != "row" {
+        return None;
+    }
+    lent(number(atoms), number(places))
 }
 
-// What the words mean after add, where each means something.
-fn read_terms(heap: Global, words: &[&str]) -> Result<Option<Vec<Term>>, AllocError>
-    ensures { IfOk result (λ o. option_map (λ v. map term_as v.items) o ≡ terms (map (λ x. x.now) words.now)) }
+// The literals of the words, where all are literals.
+fn read_literals(heap: Global, words: &[&str]) -> Result<Option<Vec<i32>>, AllocError>
+    ensures { IfOk result (λ o. option_map vec_items o ≡ literals (map (λ x. x.now) words.now)) }
 {
-    let mut terms = Vec::new(heap);
+    let mut literals = Vec::new(heap);
     for w in words {
-        match read_term(heap, w)? {
-            Some(t) => terms.push(t)?,
+        match literal(w) {
+            Some(l) => literals.push(l)?,
             None => return Ok(None),
         }
     }
-    Ok(Some(terms))
+    Ok(Some(literals))
 }
 
 fn addition(heap: Global, rest: &[&str]) -> Result<Option<Request>, AllocError>
     ensures { IfOk result (λ q. meant q ≡ adds (map (λ x. x.now) rest.now)) }
 {
-    match read_terms(heap, rest)? {
-        Some(terms) => Ok(Some(Request::Ask(Call::Add(terms)))),
+    match read_literals(heap, rest)? {
+        Some(literals) => Ok(Some(Request::Ask(Call::Add(literals)))),
         None => Ok(None),
     }
-}
-
-// A name that stands alone.
-fn naming(heap: Global, rest: &[&str]) -> Result<Option<Request>, AllocError>
-    ensures { IfOk result (λ q. meant q ≡ names (map (λ x. x.now) rest.now)) }
-{
-    let [word] = rest else {
-        return Ok(None);
-    };
-    let name = String::from_str(heap, word)?;
-    Ok(Some(Request::Ask(Call::Name(name))))
 }
 
 // The number that stands alone.
@@ -183,10 +141,6 @@ fn asked(heap: Global, verb: Option<Verb>, rest: &[&str]) -> Result<Option<Reque
         Some(Verb::Walk) => Ok(walking(budget(rest))),
         Some(Verb::Show) => Ok(bare(Call::Show, rest)),
         Some(Verb::Counts) => Ok(bare(Call::Counts, rest)),
-        Some(Verb::Name) => naming(heap, rest),
-        Some(Verb::Trace) => Ok(bare(Call::Trace, rest)),
-        Some(Verb::Lines) => Ok(bare(Call::Lines, rest)),
-        Some(Verb::Check) => Ok(bare(Call::Check, rest)),
         None => Ok(None),
     }
 }

@@ -1,10 +1,10 @@
-ghost use Rattle.std.specs.Prelude.{◌≡◌, map, IfOk, string_bytes};
+ghost use Rattle.std.specs.Prelude.{◌≡◌, ◌++◌, map, IfOk, string_bytes, OnOk};
 ghost use Rattle.std.specs.Option.{option_map};
-ghost use Rattle.script.specs.Lines.{line_as, comment, numbered, line_of, only, says};
+ghost use Rattle.script.specs.Lines.{words, spaced_at, spaced, trimmed};
+ghost use Rattle.script.specs.Scripts.{line_as, comment, numbered, line_of, lines_of};
 
 use crate::request::{Request, understood};
 use std::alloc::{AllocError, Global};
-use words::line::{line_words, spaced};
 
 // A line of a script that is not skipped: its number, its words with one space between them, and the request, if it is one.
 #[derive(Drop)]
@@ -12,6 +12,52 @@ pub struct Line {
     pub number: u64,
     pub call: String,
     pub request: Option<Request>,
+}
+
+// The words of a line, which spaces separate.
+fn words<'a>(heap: Global, line: &'a str) -> Result<Vec<&'a str>, AllocError>
+    ensures { IfOk result (λ v. map (λ x. x.now) v.items ≡ words line.now) }
+{
+    let mut words = Vec::new(heap);
+    for piece in line.split(' ') {
+        if piece.is_empty() {
+            continue;
+        }
+        words.push(piece)?;
+    }
+    Ok(words)
+}
+
+// Puts a word after the text, and a space between them unless it is the first.
+pub fn append(text: &mut String, index: usize, word: &str) -> Result<(), AllocError>
+    ensures { OnOk result (string_bytes text.new ≡ string_bytes text.old ++ spaced_at index word.now) }
+{
+    if index == 0 {
+        return text.push_str(word);
+    }
+    text.push(' ')?;
+    text.push_str(word)
+}
+
+// The words with one space between each two.
+fn spaced(heap: Global, words: &[&str]) -> Result<String, AllocError>
+    ensures { IfOk result (λ s. string_bytes s ≡ spaced (map (λ x. x.now) words.now)) }
+{
+    let mut text = String::new(heap);
+    for (i, word) in words.iter().enumerate() {
+        append(&mut text, i, word)?;
+    }
+    Ok(text)
+}
+
+// The line without the carriage return that it may end in.
+fn trimmed(line: &str) -> &str
+    ensures { result.now ≡ trimmed line.now }
+{
+    match line.strip_suffix('\r') {
+        Some(front) => front,
+        None => line,
+    }
 }
 
 // The line of that number and those words, or nothing where it has no word.
@@ -41,30 +87,28 @@ fn is_comment(line: &str) -> bool
 }
 
 // The same of a line as it stands; a comment is skipped.
-pub(crate) fn read_line(heap: Global, number: u64, line: &str) -> Result<Option<Line>, AllocError>
+fn read_line(heap: Global, number: u64, line: &str) -> Result<Option<Line>, AllocError>
     ensures { IfOk result (λ o. option_map line_as o ≡ line_of number line.now) }
 {
     if is_comment(line) {
         return Ok(None);
     }
-    let words = line_words(heap, line)?;
+    let words = words(heap, trimmed(line))?;
     line_of(heap, number, &words)
 }
 
-// Whether the words are that one alone.
-fn is_only(words: &[&str], word: &str) -> bool
-    ensures { result ≡ only word.now (map (λ x. x.now) words.now) }
+// The lines of a script that are not skipped, numbered from 1.
+pub fn read_script(heap: Global, script: &str) -> Result<Vec<Line>, AllocError>
+    ensures { IfOk result (λ v. map line_as v.items ≡ lines_of script.now) }
 {
-    let [first] = words else {
-        return false;
-    };
-    *first == word
-}
-
-// Whether the line has that one word.
-pub(crate) fn says(heap: Global, line: &str, word: &str) -> Result<bool, AllocError>
-    ensures { IfOk result (λ b. b ≡ says word.now line.now) }
-{
-    let words = line_words(heap, line)?;
-    Ok(is_only(&words, word))
+    let mut lines = Vec::new(heap);
+    let mut number: u64 = 0;
+    for line in script.split('\n') {
+        number = number.saturating_add(1);
+        let Some(read) = read_line(heap, number, line)? else {
+            continue;
+        };
+        lines.push(read)?;
+    }
+    Ok(lines)
 }

@@ -10,22 +10,20 @@ use Rattle.clause.specs.Refusals.{Told, refused}
 use Rattle.clause.proofs.Truths.{top_bound}
 use Rattle.store.specs.Held.{Held, size, clause_at, found, full, pushed, after_put, after_put_at, put_answer, put_answer_at}
 use Rattle.store.proofs.Finds.{some_found}
-use Rattle.search.specs.declared.search.Search.{Search}
-use Rattle.search.specs.declared.search.Phase.{Phase}
-use Rattle.search.specs.declared.search.Phase.TheVariants.{Unopened, Undecided, Satisfied, Refuted}
-use Rattle.search.specs.Reports.{more}
-use Rattle.search.specs.Searching.{cleared, withdrawn, one_given, admitted}
+use Rattle.session.specs.declared.search.Search.{Search}
+use Rattle.session.specs.declared.search.Phase.{Phase}
+use Rattle.session.specs.declared.search.Phase.TheVariants.{Unopened, Undecided, Satisfied, Refuted}
+use Rattle.session.specs.Reports.{more}
+use Rattle.session.specs.Searching.{cleared, withdrawn, one_given, admitted}
 use Rattle.session.specs.Steps.{After, after}
 use Rattle.session.specs.Calls.{given, put_new, adding, add_clause}
 use Rattle.search_law.proofs.Counts.{exact}
 use Rattle.search_law.proofs.Entries.{find_push, same_lits}
 use Rattle.search_law.proofs.Growth.{Cut, uncut, cut_at, grow, accept}
 use Rattle.search_law.proofs.Reasons.{keep_true}
-use Rattle.search_law.proofs.Sources.{has_more, closes_more, rooted_push, given_sourced}
 use Rattle.search_law.proofs.Steps.{still}
 use Rattle.search_law.specs.Law.{Inv, Onward, Ordinary, Says, last_one}
 use Rattle.search_law.specs.Models.{Makes}
-use Rattle.search_law.specs.Sources.{Closes}
 
 -- what makes the accepted clauses and one more true
 module _ (acc : List Clause) (c : Clause) (v : ℕ) where
@@ -78,7 +76,7 @@ module _ (acc : List Clause) (h : Held) (s : Search) (I : Inv acc h s) (c : Clau
       let e = same_lits (clause_at h.entries r.index) c r.is in
       record {
         keeps = accept acc (acc ++ (c ∷ [])) h s I (makes_fewer acc c)
-            (λ v m n. makes_more acc c v n (ap (makes v) (sym e) ∙ m r.index r.within)) (has_more acc (c ∷ []));
+            (λ v m n. makes_more acc c v n (ap (makes v) (sym e) ∙ m r.index r.within));
         onward = still h s s refl;
         numbered = q;
         one = omega arith;
@@ -106,8 +104,6 @@ module _ (acc : List Clause) (h : Held) (s : Search) (I : Inv acc h s) (c : Clau
         own
         o l
         (subst (Says (acc ++ (c ∷ [])) (pushed h (given c)) s'.valuation) (sym ph) (says_withdrawn acc c h (pushed h (given c)) s.valuation s'.valuation s.phase I.says))
-        (rooted_push acc (acc ++ (c ∷ [])) (has_more acc (c ∷ [])) h (given c) s s' I.rooted (given_sourced acc (pushed h (given c)) (size h + 1) c o.some)
-        (subst (Closes (pushed h (given c))) (sym ph) (closes_more h (pushed h (given c)) (given c ∷ []) refl s.phase I.rooted.close)))
         (let x = I.entries in
         let y = (exact acc h s I).next_given in
         let u = ap last_one ph in

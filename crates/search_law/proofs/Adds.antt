@@ -6,9 +6,9 @@ use Rattle.clause.specs.Clauses.{lits, top}
 use Rattle.clause.specs.Reading.{reads, clear}
 use Rattle.clause.specs.Refusals.{Told}
 use Rattle.store.specs.Held.{Held, found}
-use Rattle.search.specs.declared.search.Search.{Search}
-use Rattle.search.specs.declared.search.Phase.{Phase}
-use Rattle.search.specs.declared.search.Phase.TheVariants.{Unopened, Undecided, Satisfied, Refuted}
+use Rattle.session.specs.declared.search.Search.{Search}
+use Rattle.session.specs.declared.search.Phase.{Phase}
+use Rattle.session.specs.declared.search.Phase.TheVariants.{Unopened, Undecided, Satisfied, Refuted}
 use Rattle.session.specs.Steps.{After}
 use Rattle.session.specs.Calls.{adding, add_clause, add_read, add_in}
 use Rattle.search_law.proofs.Accepts.{Accepts, adding_fine}

@@ -2,10 +2,10 @@
 use Rattle.std.proofs.Common.{◌≡◌, ℕ, ◌+◌, ◌*◌, ◌^◌, ◌<◌, ◌≤◌, List, mul-le-mul, arith}
 use Rattle.clause.specs.declared.words.Clause.{Clause}
 use Rattle.store.specs.Held.{Held, size}
-use Rattle.search.specs.declared.search.Search.{Search}
-use Rattle.search.specs.declared.search.Phase.{Phase}
-use Rattle.search.specs.declared.search.Phase.TheVariants.{Unopened, Undecided, Satisfied, Refuted}
-use Rattle.search.specs.Reports.{more}
+use Rattle.session.specs.declared.search.Search.{Search}
+use Rattle.session.specs.declared.search.Phase.{Phase}
+use Rattle.session.specs.declared.search.Phase.TheVariants.{Unopened, Undecided, Satisfied, Refuted}
+use Rattle.session.specs.Reports.{more}
 use Rattle.search_law.proofs.Peaks.{peak_atoms}
 use Rattle.search_law.specs.Law.{Inv, Exact, last_one, ample, CountLaw, AmpleLaw}
 

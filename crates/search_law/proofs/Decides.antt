@@ -4,8 +4,8 @@ use Rattle.clause.specs.declared.words.Clause.{Clause}
 use Rattle.clause.specs.Refusals.{Told}
 use Rattle.dimacs.specs.Walk.{Parsed, parse}
 use Rattle.store.specs.Held.{Held, size}
-use Rattle.search.specs.declared.search.Search.{Search}
-use Rattle.search.specs.Reports.{Ended}
+use Rattle.session.specs.declared.search.Search.{Search}
+use Rattle.session.specs.Reports.{Ended}
 use Rattle.session.specs.Calls.{opened, run}
 use Rattle.search_law.proofs.Loads.{load_law}
 use Rattle.search_law.proofs.Opens.{open_law, none_held}

@@ -1,25 +1,21 @@
 -- What a derivation gives.
-use Rattle.std.proofs.Common.{◌≡◌, ℕ, suc, ◌+◌, ◌^◌, ◌<◌, Bool, true, false, not, ◌&&◌, ◌||◌, List, get_or, None, Ok, Err, sym, refl, ap, ◌∙◌, subst, ⊎_elim, arith}
-use Rattle.std.proofs.lemmas.Bool.{cases_Bool, cases_eq, cases_lt, both_ways, or_cases, or_parts, cond-false}
+use Rattle.std.proofs.Common.{◌≡◌, ℕ, suc, ◌+◌, ◌^◌, ◌<◌, true, false, List, get_or, None, Ok, Err, sym, refl, ap, ◌∙◌, subst, ⊎_elim, arith}
+use Rattle.std.proofs.lemmas.Bool.{cases_Bool, both_ways, cond-false}
 use Rattle.clause.specs.declared.words.Clause.{Clause}
 use Rattle.clause.specs.Words.{at}
 use Rattle.clause.specs.Clauses.{Literals, lits, makes, top, joined, same}
-use Rattle.clause.specs.Reading.{clear}
 use Rattle.clause.specs.Refusals.{refused}
-use Rattle.clause.proofs.Bits.{at_high}
-use Rattle.clause.proofs.Truths.{makes_none, makes_not, top_has, top_bound, above_top}
+use Rattle.clause.proofs.Truths.{makes_not, top_has, top_bound}
 use Rattle.store.specs.declared.entry.Entry.{Entry}
 use Rattle.store.specs.Held.{Held, size, blank, clause_at, found, full, pushed, after_put, after_put_at, put_answer_at}
 use Rattle.store.proofs.Finds.{find_none}
 use Rattle.store.proofs.Meanings.{entry_there}
-use Rattle.search.specs.declared.search.Search.{Search}
+use Rattle.session.specs.declared.search.Search.{Search}
 use Rattle.search_law.proofs.Entries.{same_lits}
 use Rattle.search_law.proofs.Peaks.{minus_on}
 use Rattle.search_law.proofs.Resolve.{Pair, Words, clause_of_lem, join_sound, join_false, join_lower, join_apart, join_pos_fits, join_neg_fits}
-use Rattle.search_law.proofs.Sources.{empty_clear}
 use Rattle.search_law.specs.Law.{Inv, Reasoned, Ordinary, Derived}
 use Rattle.search_law.specs.Models.{Makes}
-use Rattle.search_law.specs.Sources.{Antecedents}
 
 -- entry i is a false clause whose highest literal is negative
 module _ (acc : List Clause) (h : Held) (s : Search) (I : Inv acc h s) (i : ℕ) (li : i < size h)
@@ -83,45 +79,6 @@ module _ (acc : List Clause) (h : Held) (s : Search) (I : Inv acc h s) (i : ℕ)
       let l = drawn_lower in
       let m = (I.ordinary i li).within in
       record { some = z; within = omega arith; pos_fits = at_joined (λ x. x.pos < 2 ^ 64) pos_fits; neg_fits = at_joined (λ x. x.neg < 2 ^ 64) neg_fits }
-
-  -- its antecedents: p is the one atom that cancels
-  on_neg : at c.neg p ≡ true
-  on_neg = ⊎_elim (λ t. absurd (both_ways _ minus t)) (λ t. t) (or_cases (at c.pos p) (at c.neg p) (top_has 64 c some))
-
-  apart : (v rp rn cp cn : Bool) → (rp && v) || (rn && not v) ≡ false → (cp && v) || (cn && not v) ≡ false → rp ≡ true → cn ≡ true → ⊥
-  apart v rp rn cp cn x y t u = both_ways v (grind arith) (grind arith)
-
-  alone : (a : ℕ) → at r.pos a ≡ true → at c.neg a ≡ true → a ≡ p
-  alone a t u = ⊎_elim
-      (λ e. e)
-      (λ ne. ⊎_elim
-      (λ l. let b = top_bound 64 c in
-      absurd (apart (at v a) (at r.pos a) (at r.neg a) (at c.pos a) (at c.neg a) (reasoned.reason.rest a l) (makes_none 64 v c f a (omega arith)) t u))
-      (λ l. ⊎_elim
-      (λ g. absurd (both_ways _ (at_high c.neg a (I.ordinary i li).neg_fits g) u))
-      (λ g. absurd (both_ways _ (or_parts (at c.pos a) (at c.neg a) (above_top c a g (omega arith))).1 u))
-      (cases_lt 64 a))
-      (cases_lt a p))
-      (cases_eq a p)
-
-  pub drawn_from : Antecedents h (size h + 1) (suc reasoned.place) (suc i) d
-  drawn_from =
-      let x = reasoned.inside in
-      record {
-        first_before = omega arith;
-        second_before = omega arith;
-        first = get_or h.entries reasoned.place blank;
-        second = get_or h.entries i blank;
-        first_held = entry_there h.entries reasoned.place x;
-        second_held = entry_there h.entries i li;
-        resolves = drawn.is;
-        positive = reasoned.reason.plus;
-        negative = on_neg;
-        alone = alone;
-      }
-
-  pub drawn_empty : top (lits d) ≡ 0 → Antecedents h (size h + 1) (suc reasoned.place) (suc i) clear
-  drawn_empty z = subst (Antecedents h (size h + 1) (suc reasoned.place) (suc i)) (empty_clear d (at_joined (λ x. x.pos < 2 ^ 64) pos_fits) (at_joined (λ x. x.neg < 2 ^ 64) neg_fits) z) drawn_from
 
   -- a held clause so low is true
   pub drawn_fresh : found h d ≡ None

@@ -2,7 +2,6 @@
 use Rattle.std.proofs.Common.{◌≡◌, ℕ, ◌+◌, ◌-◌, ◌*◌, ◌^◌, ◌<◌, ◌≤◌, true, false, List, ◌++◌, length, take, replicate, None, sym, refl, ap, ◌∙◌, subst, ⊎_elim, mul-add, arith}
 use Rattle.std.proofs.lemmas.List.{length_push}
 use Rattle.std.proofs.lemmas.Bool.{cases_lt}
-use Rattle.std.specs.List.{ContainsAt}
 use Rattle.clause.specs.declared.words.Clause.{Clause}
 use Rattle.clause.specs.Words.{at, upto}
 use Rattle.clause.specs.Clauses.{lits, makes, top}
@@ -10,17 +9,15 @@ use Rattle.clause.proofs.Bits.{upto_fits}
 use Rattle.clause.proofs.Truths.{makes_agree}
 use Rattle.store.specs.declared.entry.Entry.{Entry}
 use Rattle.store.specs.Held.{Held, size, clause_at, pushed}
-use Rattle.search.specs.declared.search.Search.{Search}
-use Rattle.search.specs.declared.search.Phase.{Phase}
-use Rattle.search.specs.declared.search.Phase.TheVariants.{Unopened, Undecided, Satisfied, Refuted}
-use Rattle.search.specs.Searching.{reason_of, cleared}
+use Rattle.session.specs.declared.search.Search.{Search}
+use Rattle.session.specs.declared.search.Phase.{Phase}
+use Rattle.session.specs.declared.search.Phase.TheVariants.{Unopened, Undecided, Satisfied, Refuted}
+use Rattle.session.specs.Searching.{reason_of, cleared}
 use Rattle.search_law.proofs.Entries.{push_each, push_old, push_new}
 use Rattle.search_law.proofs.Peaks.{reason_moves, peak_atoms}
 use Rattle.search_law.proofs.Reasons.{keep_low, keep_true, clear_low, clear_high, clear_slots}
-use Rattle.search_law.proofs.Sources.{rooted_same}
 use Rattle.search_law.specs.Law.{Inv, Reason, Reasoned, Ordinary, Says, last_one}
 use Rattle.search_law.specs.Models.{Makes, Models, peak}
-use Rattle.search_law.specs.Sources.{Closes, Rooted}
 
 -- s' has the true atoms of s up to some atom, with their reasons
 pub record Cut (s s' : Search) : Type 0 where
@@ -99,8 +96,8 @@ module _ (acc : List Clause) (h : Held) (s : Search) (I : Inv acc h s) where
     few_in = let x = I.few in let y = C.atoms in omega arith
 
     -- the same entries, and no true atom cleared
-    pub relabel : s'.valuation ≡ s.valuation → Says acc h s'.valuation s'.phase → Closes h s'.phase → s'.given + s'.made.derivations ≡ size h + last_one s'.phase → Inv acc h s'
-    relabel e sy cl n = record {
+    pub relabel : s'.valuation ≡ s.valuation → Says acc h s'.valuation s'.phase → s'.given + s'.made.derivations ≡ size h + last_one s'.phase → Inv acc h s'
+    relabel e sy n = record {
       to = I.to;
       fro = I.fro;
       reasons = cut_reason h (λ i l. (l, refl));
@@ -108,7 +105,6 @@ module _ (acc : List Clause) (h : Held) (s : Search) (I : Inv acc h s) where
       below = cut_below;
       ordinary = λ i l. ordinary_in (clause_at h.entries i) (I.ordinary i l);
       says = sy;
-      rooted = rooted_same acc acc (λ c x. x) h s s' I.rooted cl;
       few = few_in;
       room = I.room;
       limit = I.limit;
@@ -129,8 +125,8 @@ module _ (acc : List Clause) (h : Held) (s : Search) (I : Inv acc h s) where
           → ((v : ℕ) → Makes v acc → makes v (lits e.clause) ≡ true → Makes v acc')
           → ((q : ℕ) → at s'.valuation q ≡ true → top (lits e.clause) < q → makes s'.valuation (lits e.clause) ≡ true)
           → Ordinary s.atoms (lits e.clause) → size h < h.places
-          → Says acc' (pushed h e) s'.valuation s'.phase → Rooted acc' (pushed h e) s' → s'.given + s'.made.derivations ≡ size h + 1 + last_one s'.phase → Inv acc' (pushed h e) s'
-      grow to fro own o l sy ro n =
+          → Says acc' (pushed h e) s'.valuation s'.phase → s'.given + s'.made.derivations ≡ size h + 1 + last_one s'.phase → Inv acc' (pushed h e) s'
+      grow to fro own o l sy n =
           let m = length_push h.entries e in
           record {
             to = λ v k. push_each h.entries e (λ c. makes v (lits c) ≡ true) (I.to v (to v k).0) (to v k).1;
@@ -142,7 +138,6 @@ module _ (acc : List Clause) (h : Held) (s : Search) (I : Inv acc h s) where
             below = λ i p q t. push_each h.entries e (λ c. top (lits c) < p → makes s'.valuation (lits c) ≡ true) (λ j r. cut_below j p r t) (own p t) i q;
             ordinary = push_each h.entries e (λ c. Ordinary s'.atoms (lits c)) (λ j r. ordinary_in (clause_at h.entries j) (I.ordinary j r)) (ordinary_in e.clause o);
             says = sy;
-            rooted = ro;
             few = few_in;
             room = omega arith;
             limit = I.limit;
@@ -157,9 +152,8 @@ module _ (acc : List Clause) (h : Held) (s : Search) (I : Inv acc h s) where
           }
 
 -- more clauses accepted, all of them consequences of what is held
-pub accept : (acc acc' : List Clause) (h : Held) (s : Search) → Inv acc h s → ((v : ℕ) → Makes v acc' → Makes v acc) → ((v : ℕ) → Models v h → Makes v acc → Makes v acc')
-    → ((c : Clause) → ContainsAt acc c → ContainsAt acc' c) → Inv acc' h s
-accept acc acc' h s I to fro wider = record {
+pub accept : (acc acc' : List Clause) (h : Held) (s : Search) → Inv acc h s → ((v : ℕ) → Makes v acc' → Makes v acc) → ((v : ℕ) → Models v h → Makes v acc → Makes v acc') → Inv acc' h s
+accept acc acc' h s I to fro = record {
   to = λ v m. I.to v (to v m);
   fro = λ v m. fro v m (I.fro v m);
   reasons = I.reasons;
@@ -167,7 +161,6 @@ accept acc acc' h s I to fro wider = record {
   below = I.below;
   ordinary = I.ordinary;
   says = says_for s.phase I.says;
-  rooted = rooted_same acc acc' wider h s s I.rooted I.rooted.close;
   few = I.few;
   room = I.room;
   limit = I.limit;

@@ -2,7 +2,6 @@ pub mod Least
 pub mod Resolve
 pub mod Entries
 pub mod Reasons
-pub mod Sources
 pub mod Peaks
 pub mod Counts
 pub mod Settings

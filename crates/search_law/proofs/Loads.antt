@@ -9,9 +9,9 @@ use Rattle.clause.specs.Refusals.{Told, refused}
 use Rattle.dimacs.specs.Walk.{Parsed, parse}
 use Rattle.store.specs.declared.entry.Entry.{Entry}
 use Rattle.store.specs.Held.{Held, size, found, find_from}
-use Rattle.search.specs.declared.search.Search.{Search}
-use Rattle.search.specs.declared.search.Phase.{Phase}
-use Rattle.search.specs.declared.search.Phase.TheVariants.{Unopened, Undecided, Satisfied, Refuted}
+use Rattle.session.specs.declared.search.Search.{Search}
+use Rattle.session.specs.declared.search.Phase.{Phase}
+use Rattle.session.specs.declared.search.Phase.TheVariants.{Unopened, Undecided, Satisfied, Refuted}
 use Rattle.session.specs.Steps.{After}
 use Rattle.session.specs.Calls.{add_clause, loads, load_all, load_parsed, load_in}
 use Rattle.search_law.proofs.Accepts.{Takes, Accepts, accept_fine}

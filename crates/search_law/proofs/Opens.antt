@@ -7,9 +7,8 @@ use Rattle.clause.specs.declared.refusal.Refusal.TheVariants.{AtomCount, NoPlace
 use Rattle.clause.specs.Reading.{outside}
 use Rattle.clause.proofs.Bits.{at_zero}
 use Rattle.store.specs.Held.{Held, Kept, size}
-use Rattle.store.proofs.Meanings.{entry_seen}
-use Rattle.search.specs.declared.search.Phase.TheVariants.{Undecided}
-use Rattle.search.specs.Searching.{fresh, reason_in}
+use Rattle.session.specs.declared.search.Phase.TheVariants.{Undecided}
+use Rattle.session.specs.Searching.{fresh, reason_in}
 use Rattle.session.specs.Calls.{due, opening}
 use Rattle.search_law.specs.Law.{Inv, OpenLaw}
 
@@ -37,7 +36,6 @@ begins n h k l z = record {
   below = λ i p q. absurd (omega arith);
   ordinary = λ i q. absurd (omega arith);
   says = tt;
-  rooted = record { held = λ k e q. let w = (entry_seen h.entries k e q).within in absurd (omega arith); close = tt };
   few = l;
   room = k.within;
   limit = k.few;

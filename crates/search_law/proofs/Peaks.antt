@@ -7,8 +7,8 @@ use Rattle.clause.specs.Clauses.{Literals, lits, makes, top, has}
 use Rattle.clause.proofs.Bits.{at_zero}
 use Rattle.clause.proofs.Truths.{makes_none, top_has, top_le}
 use Rattle.store.specs.Held.{Held, size, clause_at}
-use Rattle.search.specs.declared.search.Search.{Search}
-use Rattle.search.specs.Reports.{more}
+use Rattle.session.specs.declared.search.Search.{Search}
+use Rattle.session.specs.Reports.{more}
 use Rattle.search_law.specs.Law.{Inv, Reason}
 use Rattle.search_law.specs.Models.{peak}
 

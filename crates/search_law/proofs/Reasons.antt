@@ -4,8 +4,8 @@ use Rattle.std.proofs.lemmas.List.{get_or-set_same, get_or-set_other, get_or_app
 use Rattle.std.proofs.lemmas.Bool.{cases_lt, or_right, and_parts, eq-eqb, ne_eqb, leb-true, le-leb}
 use Rattle.clause.specs.Words.{at, with_atom, upto}
 use Rattle.clause.proofs.Bits.{at_with, at_upto}
-use Rattle.search.specs.declared.search.Search.{Search}
-use Rattle.search.specs.Searching.{reason_in, reason_of, setting, cleared}
+use Rattle.session.specs.declared.search.Search.{Search}
+use Rattle.session.specs.Searching.{reason_in, reason_of, setting, cleared}
 
 -- an atom of a new valuation
 pub with_other : (v p a : ℕ) → 0 < p → (a ≡ p → ⊥) → at (with_atom v p) a ≡ at v a

@@ -8,14 +8,14 @@ use Rattle.clause.specs.Refusals.{Told, refused}
 use Rattle.clause.proofs.Truths.{makes_not, above_top}
 use Rattle.store.specs.Held.{Held, Pick, size, entry_at, least_from, number_of}
 use Rattle.store.proofs.Leasts.{Law, First, least_law}
-use Rattle.search.specs.declared.report.Step.{Step}
-use Rattle.search.specs.declared.report.Step.TheVariants.{Setting, Derivation}
-use Rattle.search.specs.declared.report.Tally.{Tally}
-use Rattle.search.specs.declared.search.Search.{Search}
-use Rattle.search.specs.declared.search.Phase.{Phase}
-use Rattle.search.specs.declared.search.Phase.TheVariants.{Unopened, Undecided, Satisfied, Refuted}
-use Rattle.search.specs.Reports.{satisfiable, stopped, Ended, counted, more, none_made}
-use Rattle.search.specs.Searching.{satisfied}
+use Rattle.session.specs.declared.report.Step.{Step}
+use Rattle.session.specs.declared.report.Step.TheVariants.{Setting, Derivation}
+use Rattle.session.specs.declared.report.Tally.{Tally}
+use Rattle.session.specs.declared.search.Search.{Search}
+use Rattle.session.specs.declared.search.Phase.{Phase}
+use Rattle.session.specs.declared.search.Phase.TheVariants.{Unopened, Undecided, Satisfied, Refuted}
+use Rattle.session.specs.Reports.{satisfiable, stopped, Ended, counted, more, none_made}
+use Rattle.session.specs.Searching.{satisfied}
 use Rattle.session.specs.Steps.{After, ended, looks, goes_on, stepping, step_at, runs}
 use Rattle.session.specs.Calls.{allowed, run_in, show_in}
 use Rattle.search_law.proofs.Counts.{exact}
@@ -175,7 +175,7 @@ module _ (acc : List Clause) (b : ℕ) (ih : (h : Held) (s : Search) (t : Tally)
 module _ (acc : List Clause) (h : Held) (s : Search) (t : Tally) (b : ℕ) (I : Inv acc h s) (go : ℕ → After (Result Ended Told)) where
   sat_end : (ph : Phase) → s.phase ≡ ph → last_one ph ≡ 0 → Models s.valuation h → Run acc h s t b (ended h (satisfied s) satisfiable t)
   sat_end ph e z m = record {
-    keeps = relabel acc h s I (satisfied s) (uncut acc h s I Satisfied s.made.derivations s.given) refl m tt
+    keeps = relabel acc h s I (satisfied s) (uncut acc h s I Satisfied s.made.derivations s.given) refl m
         (let x = I.entries in let y = ap last_one e in omega arith);
     onward = still h s (satisfied s) refl;
     right = (refl, least_model acc h s I m);
@@ -192,7 +192,7 @@ module _ (acc : List Clause) (h : Held) (s : Search) (t : Tally) (b : ℕ) (I : 
   looks_fine (Refuted i j) q o l k = record {
     keeps = I;
     onward = still h s s refl;
-    right = ((i, j, q), subst (Says acc h s.valuation) q I.says);
+    right = subst (Says acc h s.valuation) q I.says;
     unspent = λ _ z. let w : ◌≡◌ {A = ℕ} 0 1 = cc in absurd (omega arith);
     given = refl;
     settings = refl;

@@ -7,10 +7,10 @@ use Rattle.clause.specs.Clauses.{Literals, lits, makes, top}
 use Rattle.clause.proofs.Bits.{with_fits}
 use Rattle.clause.proofs.Truths.{makes_none, makes_agree, top_bound}
 use Rattle.store.specs.Held.{Held, size, clause_at}
-use Rattle.search.specs.declared.search.Search.{Search}
-use Rattle.search.specs.declared.search.Phase.{Phase}
-use Rattle.search.specs.declared.search.Phase.TheVariants.{Unopened, Undecided, Satisfied, Refuted}
-use Rattle.search.specs.Searching.{reason_of, setting}
+use Rattle.session.specs.declared.search.Search.{Search}
+use Rattle.session.specs.declared.search.Phase.{Phase}
+use Rattle.session.specs.declared.search.Phase.TheVariants.{Unopened, Undecided, Satisfied, Refuted}
+use Rattle.session.specs.Searching.{reason_of, setting}
 use Rattle.search_law.proofs.Peaks.{peak_le, peak_most, plus_off, reason_moves, more_le, under}
 use Rattle.search_law.proofs.Reasons.{with_other, with_same, set_same, set_other, set_slots}
 use Rattle.search_law.specs.Law.{Inv, Reasoned, Says}
@@ -110,7 +110,6 @@ module _ (acc : List Clause) (h : Held) (s : Search) (I : Inv acc h s) (i : ℕ)
         (cases_Bool (makes v (lits (clause_at h.entries k))));
     ordinary = I.ordinary;
     says = says_on acc h v w i li f s.phase I.says;
-    rooted = record { held = I.rooted.held; close = I.rooted.close };
     few = I.few;
     room = I.room;
     limit = I.limit;

@@ -1,5 +1,5 @@
 -- A step keeps the invariant, or is stopped for want of a place, and leaves less to do.
-use Rattle.std.proofs.Common.{◌≡◌, ℕ, suc, ◌+◌, ◌-◌, ◌*◌, ◌<◌, ◌≤◌, Bool, true, false, eqb, List, [], ◌∷◌, ◌++◌, Ok, Err, Option, Result, sym, refl, ap, ◌∙◌, subst, inr, arith}
+use Rattle.std.proofs.Common.{◌≡◌, ℕ, suc, ◌+◌, ◌-◌, ◌*◌, ◌<◌, ◌≤◌, Bool, true, false, eqb, List, [], ◌∷◌, ◌++◌, Ok, Err, Option, Result, sym, refl, ap, ◌∙◌, subst, arith}
 use Rattle.std.proofs.lemmas.List.{append-nil, append_assoc, length_push}
 use Rattle.std.proofs.lemmas.Bool.{eqb-true, eqb-false}
 use Rattle.clause.specs.declared.words.Clause.{Clause}
@@ -10,24 +10,22 @@ use Rattle.clause.proofs.Truths.{empty_false, top_bound}
 use Rattle.store.specs.declared.entry.Entry.{Entry}
 use Rattle.store.specs.Held.{Held, size, clause_at, entry_at, full, pushed}
 use Rattle.store.proofs.Meanings.{entry_there}
-use Rattle.search.specs.declared.report.Step.{Step}
-use Rattle.search.specs.declared.report.Step.TheVariants.{Setting, Derivation}
-use Rattle.search.specs.declared.search.Search.{Search}
-use Rattle.search.specs.declared.search.Phase.{Phase}
-use Rattle.search.specs.declared.search.Phase.TheVariants.{Unopened, Undecided, Satisfied, Refuted}
-use Rattle.search.specs.Reports.{counted, more}
-use Rattle.search.specs.Searching.{reason_of, setting, cleared, derived, refuted}
+use Rattle.session.specs.declared.report.Step.{Step}
+use Rattle.session.specs.declared.report.Step.TheVariants.{Setting, Derivation}
+use Rattle.session.specs.declared.search.Search.{Search}
+use Rattle.session.specs.declared.search.Phase.{Phase}
+use Rattle.session.specs.declared.search.Phase.TheVariants.{Unopened, Undecided, Satisfied, Refuted}
+use Rattle.session.specs.Reports.{counted, more}
+use Rattle.session.specs.Searching.{reason_of, setting, cleared, derived, refuted}
 use Rattle.session.specs.Steps.{After, after, putting, deriving_one, resolving, with_reason_entry, with_reason, acting, at_top, step_at}
 use Rattle.search_law.proofs.Counts.{exact}
-use Rattle.search_law.proofs.Derivations.{reasoned, drawn, d, new, drawn_follows, drawn_ordinary, drawn_put, drawn_from, drawn_empty}
+use Rattle.search_law.proofs.Derivations.{reasoned, drawn, d, new, drawn_follows, drawn_ordinary, drawn_put}
 use Rattle.search_law.proofs.Growth.{uncut, cut_at, relabel, grow}
 use Rattle.search_law.proofs.Peaks.{peak_atoms}
 use Rattle.search_law.proofs.Reasons.{keep_true}
 use Rattle.search_law.proofs.Settings.{set_keeps, set_rises, set_peak}
-use Rattle.search_law.proofs.Sources.{antecedents_more, rooted_push}
 use Rattle.search_law.specs.Law.{Inv, Onward, Says, last_one}
 use Rattle.search_law.specs.Models.{peak}
-use Rattle.search_law.specs.Sources.{Closes}
 
 -- the most steps that can follow
 abbrev pub todo : Held → Search → ℕ
@@ -122,7 +120,6 @@ module _ (acc : List Clause) (h : Held) (s : Search) (I : Inv acc h s) (ph : s.p
         record {
           keeps = relabel acc h s I (refuted s r (suc i)) (uncut acc h s I (Refuted r (suc i)) (more s.made.derivations) s.given) refl
               (λ v m. empty_false v (lits D) z (drawn_follows acc h s I i li f minus v m))
-              (drawn_empty acc h s I i li f minus z)
               (let u = I.entries in let w = no_last in let y = more_derivations in omega arith);
           onward = still h s (refuted s r (suc i)) refl;
           less = omega arith;
@@ -148,9 +145,6 @@ module _ (acc : List Clause) (h : Held) (s : Search) (I : Inv acc h s) (ph : s.p
               (λ a t y. let w = (keep_true s.valuation (top (lits D)) a t).1 in absurd (omega arith))
               (drawn_ordinary acc h s I i li f minus z) l
               (subst (Says acc (pushed h N) s'.valuation) (sym ph) tt)
-              (rooted_push acc acc (λ c x. x) h N s s' I.rooted
-              (inr (antecedents_more h (pushed h N) (N ∷ []) (size h + 1) (size h + 1) r (suc i) D refl (omega arith) (drawn_from acc h s I i li f minus)))
-              (subst (Closes (pushed h N)) (sym ph) tt))
               (let u = I.entries in let w = no_last in let y = more_derivations in omega arith);
           onward = record { atoms = refl; places = refl; more = N ∷ []; grown = refl };
           less = omega arith;

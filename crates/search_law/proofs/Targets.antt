@@ -6,7 +6,7 @@ use Rattle.store.specs.declared.entry.Entry.{Entry}
 use Rattle.store.specs.Held.{Held, Pick, size, blank, clause_at, entry_at, least_from, number_of}
 use Rattle.store.proofs.Leasts.{Law, least_law}
 use Rattle.store.proofs.Meanings.{entry_there}
-use Rattle.search.specs.declared.search.Search.{Search}
+use Rattle.session.specs.declared.search.Search.{Search}
 use Rattle.search_law.proofs.Derivations.{derives}
 use Rattle.search_law.proofs.Settings.{set_rises, set_peak}
 use Rattle.search_law.specs.Law.{Acts, Derived, DeriveLaw, SettingLaw}

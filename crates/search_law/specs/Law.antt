@@ -9,14 +9,13 @@ use Rattle.clause.specs.Refusals.{Told, refused}
 use Rattle.dimacs.specs.Walk.{Parsed, parse}
 use Rattle.store.specs.declared.entry.Entry.{Entry}
 use Rattle.store.specs.Held.{Held, Kept, size, clause_at, entry_at, found, full, pushed, after_put, put_answer, least_false}
-use Rattle.search.specs.declared.search.Search.{Search}
-use Rattle.search.specs.declared.search.Phase.{Phase}
-use Rattle.search.specs.declared.search.Phase.TheVariants.{Unopened, Undecided, Satisfied, Refuted}
-use Rattle.search.specs.Reports.{Said, satisfiable, unsatisfiable, stopped, Ended, more}
-use Rattle.search.specs.Searching.{reason_of}
+use Rattle.session.specs.declared.search.Search.{Search}
+use Rattle.session.specs.declared.search.Phase.{Phase}
+use Rattle.session.specs.declared.search.Phase.TheVariants.{Unopened, Undecided, Satisfied, Refuted}
+use Rattle.session.specs.Reports.{Said, satisfiable, unsatisfiable, stopped, Ended, more}
+use Rattle.session.specs.Searching.{reason_of}
 use Rattle.session.specs.Calls.{due, opened, add, load, run, shown}
 use Rattle.search_law.specs.Models.{Makes, Models, Hopeless, Least, peak}
-use Rattle.search_law.specs.Sources.{Rooted}
 
 -- c is a reason of p under v: its highest literal is p, positive, and its others are false
 pub record Reason (v p : ℕ) (c : Literals) : Type 0 where
@@ -65,8 +64,6 @@ pub record Inv (acc : List Clause) (h : Held) (s : Search) : Type 0 where
   pub below : (i p : ℕ) → i < size h → at s.valuation p ≡ true → top (lits (clause_at h.entries i)) < p → makes s.valuation (lits (clause_at h.entries i)) ≡ true
   pub ordinary : (i : ℕ) → i < size h → Ordinary s.atoms (lits (clause_at h.entries i))
   pub says : Says acc h s.valuation s.phase
-  -- every held clause was accepted or derived, and so was the empty one in a refuted session
-  pub rooted : Rooted acc h s
   -- sizes
   pub few : s.atoms ≤ 64
   pub room : size h ≤ h.places
@@ -121,7 +118,7 @@ LoadLaw = (acc : List Clause) (h : Held) (s : Search) → Inv acc h s → (bs : 
 -- what the end of a run says
 abbrev pub Right : List Clause → Held → Search → Said → Type 0
 Right acc h s satisfiable = (s.phase ≡ Satisfied) × Least s.valuation acc
-Right acc h s unsatisfiable = ((i : ℕ) × (j : ℕ) × (s.phase ≡ Refuted i j)) × Hopeless acc
+Right acc h s unsatisfiable = Hopeless acc
 Right acc h s (stopped e) = ((e ≡ refused 10 0) × (size h ≡ h.places)) ⊎ (e ≡ refused 14 0)
 
 -- a budget that is never used up
@@ -191,10 +188,6 @@ LeastLaw = (cs : List Clause) (v w : ℕ) → Least v cs → Least w cs → v �
 -- what is shown is the least valuation that makes the accepted clauses true
 abbrev pub ShowLaw : Type 0
 ShowLaw = (acc : List Clause) (h : Held) (s : Search) → Inv acc h s → (v : ℕ) → shown s ≡ Ok v → Least v acc
-
--- every held entry was given or derived, and a refutation rests on two entries whose resolvent is the empty clause
-abbrev pub SourceLaw : Type 0
-SourceLaw = (acc : List Clause) (h : Held) (s : Search) → Inv acc h s → Rooted acc h s
 
 -- no count comes near 32 bits, so each goes up by one at every step
 pub record Exact (h : Held) (s : Search) : Type 0 where

@@ -1,4 +1,3 @@
 pub mod Models
-pub mod Sources
 pub mod Law
 pub mod Texts

@@ -6,7 +6,7 @@ use Rattle.clause.specs.Clauses.{lits}
 use Rattle.clause.specs.Refusals.{Told}
 use Rattle.dimacs.specs.Walk.{Parsed, parse}
 use Rattle.store.specs.Held.{Held, Kept}
-use Rattle.search.specs.Reports.{Ended}
+use Rattle.session.specs.Reports.{Ended}
 use Rattle.session.specs.Steps.{After}
 use Rattle.session.specs.Calls.{due, opened, load, run}
 use Rattle.search_law.specs.Law.{Ordinary, Ending}

@@ -1,8 +1,7 @@
 // The law of the search: what every call of a session keeps, and what its answers say of the accepted clauses.
 #![tactic(auto)]
 
-ghost use Rattle.search_law.specs.Law.{OpenLaw, AddLaw, LoadLaw, RunLaw, AmpleLaw, ShowLaw, SourceLaw, DeriveLaw, SettingLaw, LeastLaw, CountLaw};
-ghost use Rattle.search_law.specs.Sources.{JoinLaw};
+ghost use Rattle.search_law.specs.Law.{OpenLaw, AddLaw, LoadLaw, RunLaw, AmpleLaw, ShowLaw, DeriveLaw, SettingLaw, LeastLaw, CountLaw};
 ghost use Rattle.search_law.specs.Texts.{ClauseLaw, BoundLaw, DecideLaw};
 
 // Opening begins with the invariant; add, load and run keep it; run and show say what holds of the accepted clauses.
@@ -23,15 +22,6 @@ pub fn loads_stand() -> u8
     ensures clauses { ClauseLaw }
     ensures bounds { BoundLaw }
     ensures decides { DecideLaw }
-{
-    0
-}
-
-// The invariant says where clauses come from: every held entry was given, with an accepted clause, or is the resolvent of two entries before it, between
-// which just one atom cancels; and an unsatisfiable verdict keeps two entries whose resolvent is the empty clause.
-pub fn sources_stand() -> u8
-    ensures sources { SourceLaw }
-    ensures joins { JoinLaw }
 {
     0
 }

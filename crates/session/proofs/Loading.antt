@@ -5,9 +5,9 @@ use Rattle.clause.specs.Refusals.{Told}
 use Rattle.dimacs.specs.declared.heading.Heading.{Heading}
 use Rattle.dimacs.specs.Walk.{Parsed, parse, counts}
 use Rattle.store.specs.Held.{Held}
-use Rattle.search.specs.declared.search.Search.{Search}
-use Rattle.search.specs.declared.search.Phase.{Phase}
-use Rattle.search.specs.declared.search.Phase.TheVariants.{Unopened, Undecided, Satisfied, Refuted}
+use Rattle.session.specs.declared.search.Search.{Search}
+use Rattle.session.specs.declared.search.Phase.{Phase}
+use Rattle.session.specs.declared.search.Phase.TheVariants.{Unopened, Undecided, Satisfied, Refuted}
 use Rattle.session.specs.Steps.{After, after}
 use Rattle.session.specs.Calls.{load, load_in, load_parsed, load_all}
 

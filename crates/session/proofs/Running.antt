@@ -3,13 +3,13 @@ use Rattle.std.proofs.Common.{◌≡◌, ℕ, zero, suc, ◌-◌, ◌<◌, Some,
 use Rattle.clause.specs.declared.refusal.Refusal.{Refusal}
 use Rattle.clause.specs.Refusals.{Told, told, refused}
 use Rattle.store.specs.Held.{Held, least_false, entry_at}
-use Rattle.search.specs.declared.search.Search.{Search}
-use Rattle.search.specs.declared.search.Phase.{Phase}
-use Rattle.search.specs.declared.search.Phase.TheVariants.{Unopened, Undecided, Satisfied, Refuted}
-use Rattle.search.specs.declared.report.Step.{Step}
-use Rattle.search.specs.declared.report.Tally.{Tally}
-use Rattle.search.specs.Reports.{Ended, satisfiable, unsatisfiable, stopped, counted}
-use Rattle.search.specs.Searching.{satisfied}
+use Rattle.session.specs.declared.search.Search.{Search}
+use Rattle.session.specs.declared.search.Phase.{Phase}
+use Rattle.session.specs.declared.search.Phase.TheVariants.{Unopened, Undecided, Satisfied, Refuted}
+use Rattle.session.specs.declared.report.Step.{Step}
+use Rattle.session.specs.declared.report.Tally.{Tally}
+use Rattle.session.specs.Reports.{Ended, satisfiable, unsatisfiable, stopped, counted}
+use Rattle.session.specs.Searching.{satisfied}
 use Rattle.session.specs.Steps.{After, after, ended, looks, runs, stepping, step_at}
 
 -- neither refused at the opening nor refuted

@@ -9,11 +9,11 @@ use Rattle.clause.specs.Refusals.{Told, told, refused}
 use Rattle.dimacs.specs.Walk.{Parsed, parse}
 use Rattle.store.specs.declared.entry.Entry.{Entry}
 use Rattle.store.specs.Held.{Held, found, after_put, put_answer}
-use Rattle.search.specs.declared.search.Search.{Search}
-use Rattle.search.specs.declared.search.Phase.{Phase}
-use Rattle.search.specs.declared.search.Phase.TheVariants.{Unopened, Undecided, Satisfied, Refuted}
-use Rattle.search.specs.Reports.{Ended, none_made}
-use Rattle.search.specs.Searching.{fresh, admitted}
+use Rattle.session.specs.declared.search.Search.{Search}
+use Rattle.session.specs.declared.search.Phase.{Phase}
+use Rattle.session.specs.declared.search.Phase.TheVariants.{Unopened, Undecided, Satisfied, Refuted}
+use Rattle.session.specs.Reports.{Ended, none_made}
+use Rattle.session.specs.Searching.{fresh, admitted}
 use Rattle.session.specs.Steps.{After, after, runs}
 
 -- the first that is due at an opening with n atoms over a store that holds h: 1, 2 or 3

@@ -1,2 +1,4 @@
+pub mod Reports
+pub mod Searching
 pub mod Steps
 pub mod Calls

@@ -6,14 +6,14 @@ use Rattle.clause.specs.Words.{at}
 use Rattle.clause.specs.Refusals.{Told, told, refused}
 use Rattle.store.specs.declared.entry.Entry.{Entry}
 use Rattle.store.specs.Held.{Held, entry_at, after_put, full, least_false}
-use Rattle.search.specs.declared.search.Search.{Search}
-use Rattle.search.specs.declared.search.Phase.{Phase}
-use Rattle.search.specs.declared.search.Phase.TheVariants.{Unopened, Undecided, Satisfied, Refuted}
-use Rattle.search.specs.declared.report.Step.{Step}
-use Rattle.search.specs.declared.report.Step.TheVariants.{Setting, Derivation}
-use Rattle.search.specs.declared.report.Tally.{Tally}
-use Rattle.search.specs.Reports.{Said, satisfiable, unsatisfiable, stopped, Ended, counted}
-use Rattle.search.specs.Searching.{setting, derived, refuted, satisfied, reason_of}
+use Rattle.session.specs.declared.search.Search.{Search}
+use Rattle.session.specs.declared.search.Phase.{Phase}
+use Rattle.session.specs.declared.search.Phase.TheVariants.{Unopened, Undecided, Satisfied, Refuted}
+use Rattle.session.specs.declared.report.Step.{Step}
+use Rattle.session.specs.declared.report.Step.TheVariants.{Setting, Derivation}
+use Rattle.session.specs.declared.report.Tally.{Tally}
+use Rattle.session.specs.Reports.{Said, satisfiable, unsatisfiable, stopped, Ended, counted}
+use Rattle.session.specs.Searching.{setting, derived, refuted, satisfied, reason_of}
 
 -- what a store then holds, what its session then keeps, and what a call answers
 pub record After (X : Type 0) : Type 0 where

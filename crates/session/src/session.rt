@@ -3,19 +3,19 @@ ghost use Rattle.dimacs.specs.ToCome.{to_come};
 ghost use Rattle.dimacs.specs.Walk.{Parsed, parse};
 ghost use Rattle.clause.specs.Refusals.{answer};
 ghost use Rattle.store.specs.Held.{Held, entry_at, least_false};
-ghost use Rattle.search.specs.Reports.{none_made, run_answer};
+ghost use Rattle.session.specs.Reports.{none_made, run_answer};
 ghost use Rattle.session.specs.Steps.{after, step, step_at, runs};
 ghost use Rattle.clause.specs.Clauses.{lits, top};
 ghost use Rattle.session.specs.Calls.{due, opening, opened, add, add_clause, load, load_all, loads, run, shown};
 
 pub mod questions;
 
+use crate::report::{Outcome, Report, Step, Tally};
+use crate::search::{Phase, Search};
 use clause::refusal::Refusal;
 use clause::words::Clause;
 use dimacs::check::check;
 use dimacs::clauses::Clauses;
-use search::report::{Outcome, Report, Step, Tally};
-use search::search::{Phase, Search};
 use store::entry::Entry;
 use store::store::ClauseStore;
 

@@ -4,7 +4,7 @@ use Rattle.clause.specs.Clauses.{makes_to, top_to, clause_of, joined}
 use Rattle.clause.specs.Order.{rank_to}
 use Rattle.clause.specs.Reading.{grown, reads}
 use Rattle.store.specs.Held.{find_from, least_from}
-use Rattle.search.specs.Searching.{reason_in, setting, cleared}
+use Rattle.session.specs.Searching.{reason_in, setting, cleared}
 use Rattle.examples.proofs.examples_stand.Goals as goal
 
 pub returns : goal.returns

@@ -1,7 +1,7 @@
 use Rattle.std.proofs.Common.{◌≡◌, ◌++◌, get_or, pos, string_bytes, ap, ◌∙◌, rules}
 use Rattle.std.specs.Fmt.{signed_decimal}
-use Rattle.words.specs.Lines.{spaced_at}
-use Rattle.words.proofs.Spacing.{spaced_more, spaced_all}
+use Rattle.script.specs.Lines.{spaced_at}
+use Rattle.script.proofs.Spacing.{spaced_more, spaced_all}
 use Rattle.render.proofs.spelled.Goals as goal
 
 pub loop-i-preserved : goal.loop-i-preserved

@@ -1,6 +1,6 @@
 use Rattle.std.proofs.Common.{◌++◌, codes, sym, ap, ◌∙◌}
 use Rattle.std.proofs.lemmas.Result.{IfOk-weaker}
-use Rattle.search.specs.Reports.{said}
+use Rattle.session.specs.Reports.{said}
 use Rattle.render.specs.Texts.{stepped_text}
 use Rattle.render.proofs.stepped_text.Goals as goal
 

@@ -1,8 +1,8 @@
 ghost use Rattle.std.specs.Prelude.{◌≡◌, length};
 ghost use Rattle.store.specs.Held.{entry_at};
 
+use crate::search::Search;
 use crate::session::Session;
-use search::search::Search;
 use store::entry::Entry;
 use store::store::ClauseStore;
 

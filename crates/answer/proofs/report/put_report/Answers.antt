@@ -1,5 +1,5 @@
 use Rattle.std.proofs.Common.{ℕ, ◌+◌, List, length, ap, ◌∙◌, zero-add, arith}
-use Rattle.search.specs.Reports.{said}
+use Rattle.session.specs.Reports.{said}
 use Rattle.answer.specs.Answered.{status, valued, counted}
 use Rattle.answer.specs.Printed.{wrote}
 use Rattle.answer.proofs.Wrote.{first, more}

@@ -1,4 +1,7 @@
-use Rattle.std.proofs.Common.{sym, ◌∙◌, rules}
+use Rattle.std.proofs.Common.{◌≡◌, true, false, [], get_or, codes, sym, ◌∙◌, rules}
+use Rattle.std.specs.Str.{bytes_eq}
+use Rattle.std.proofs.lemmas.Slice.Eq.{bytes_eq-Decides}
+use Rattle.std.proofs.lemmas.Bool.{cond-true, cond-false}
 use Rattle.script.specs.Requests.{lends}
 use Rattle.script.proofs.Phrases.{opens_three, opens_none}
 use Rattle.script.proofs.request.opening.Goals as goal
@@ -6,7 +9,13 @@ use Rattle.script.proofs.request.opening.Goals as goal
 pub returns-in_default : goal.returns-in_default
 returns-in_default c = opens_none (λ x. x.now) c.args.rest.now (λ e. search rules)
 
+pub returns-then-ne : goal.returns-then-ne
+returns-then-ne c =
+    let other : bytes_eq (get_or c.args.rest.now 2 (record { ref_ptr = (0, 0); now = [] })).now (codes "row") ≡ false = search (rules, bytes_eq-Decides) in
+    sym (opens_three (λ x. x.now) c.args.rest.now _ (search rules) ∙ cond-false _ _ _ other)
+
 pub returns : goal.returns
 returns c =
-    c.lent.ensures ∙ (λ i. lends (c.number.ensures i) (c.number-2.ensures i) (c.kind_of.ensures i)) ∙
-    sym (opens_three (λ x. x.now) c.args.rest.now _ (search rules))
+    let row : bytes_eq (get_or c.args.rest.now 2 (record { ref_ptr = (0, 0); now = [] })).now (codes "row") ≡ true = search (rules, bytes_eq-Decides) in
+    c.lent.ensures ∙ (λ i. lends (c.number.ensures i) (c.number-2.ensures i)) ∙
+    sym (opens_three (λ x. x.now) c.args.rest.now _ (search rules) ∙ cond-true _ _ _ row)

@@ -1,6 +1,6 @@
 use Rattle.std.proofs.Common.{◌≡◌, ℕ, false, List, [], ◌∷◌, length, sym, refl, ◌∙◌, arith}
 use Rattle.std.proofs.lemmas.Bool.{eqb-true}
-use Rattle.script.specs.Lines.{comment}
+use Rattle.script.specs.Scripts.{comment}
 use Rattle.script.proofs.text.is_comment.Goals as goal
 
 no_byte : (bs : List ℕ) → length bs ≡ 0 → false ≡ comment bs

@@ -1,6 +1,6 @@
 use Rattle.std.proofs.Common.{sym, ◌∙◌}
 use Rattle.std.proofs.lemmas.Bool.{eqb-true, eqb-false}
-use Rattle.script.proofs.Lining.{no_word, some_word}
+use Rattle.script.proofs.Scripting.{no_word, some_word}
 use Rattle.script.proofs.text.line_of.Goals as goal
 
 pub returns-then-is_empty : goal.returns-then-is_empty

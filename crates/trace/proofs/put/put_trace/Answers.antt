@@ -2,7 +2,7 @@ use Rattle.std.proofs.Common.{ℕ, ◌+◌, ◌*◌, cond, ap, ◌∙◌, subst,
 use Rattle.lines.specs.Bytes.{wrote as put}
 use Rattle.lines.specs.Format.{line_bytes, trailer_bytes}
 use Rattle.rule.specs.Tests.{is_bare}
-use Rattle.search.specs.declared.search.Search.{Search}
+use Rattle.session.specs.declared.search.Search.{Search}
 use Rattle.trace.specs.Marks.{marked}
 use Rattle.trace.specs.Lines.{order, chosen, trailer_for}
 use Rattle.trace.specs.Tables.{Table, by_table}

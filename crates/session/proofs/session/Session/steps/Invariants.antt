@@ -1,5 +1,5 @@
 use Rattle.std.proofs.Common.{◌≡◌}
-use Rattle.search.specs.Reports.{none_made}
+use Rattle.session.specs.Reports.{none_made}
 use Rattle.session.specs.Steps.{runs}
 use Rattle.session.proofs.session.Session.steps.Given as goal
 

@@ -1,4 +1,0 @@
-pub mod Meanings
-pub mod Walks
-pub mod Tracing
-pub mod Attending

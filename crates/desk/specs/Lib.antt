@@ -1,4 +1,0 @@
-pub mod Literals
-pub mod Readings
-pub mod Desks
-pub mod Written

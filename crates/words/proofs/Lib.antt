@@ -1,3 +1,0 @@
-pub mod Capped
-pub mod Cuts
-pub mod Spacing
