@@ -1,12 +1,15 @@
 -- The number of a clause in base 4 tells its place in the order, and the clause.
 use Rattle.std.proofs.Common.{◌≡◌, ℕ, zero, suc, ◌+◌, ◌-◌, ◌*◌, ◌^◌, ◌<◌, ◌≤◌, Bool, true, false, cond, not, ◌&&◌, ◌||◌, Ordering, Less, Equal, Greater, sym, refl, ap, ◌∙◌, ap₂, ⊎_elim, mul-le-mul_right, add-mul, pow-suc, arith}
+use Rattle.std.specs.Cmp.{nat_cmp_is}
+use Rattle.std.specs.Ordering.{nat_cmp, ordering_then, then_cmp, on}
 use lib.Bits.{bit_or, bit_xor}
 use lib.Count.{count_leading_zeros}
 use Rattle.std.proofs.lemmas.Bool.{cases_eq, cases_order, cases_Bool}
 use Rattle.clause.specs.Words.{at}
-use Rattle.clause.specs.Clauses.{Literals, has, top_to}
-use Rattle.clause.specs.Order.{treats, rank, rank_to, Before, Alike, Decided, Compares}
-use Rattle.clause.proofs.Truths.{top_bound}
+use Rattle.clause.specs.declared.words.Clause.{Clause}
+use Rattle.clause.specs.Clauses.{Literals, Words, lits, has, top_to}
+use Rattle.clause.specs.Order.{treats, rank, rank_to, Before, Alike, Decided, Compares, clause_cmp}
+use Rattle.clause.proofs.Truths.{top_bound, apart_word}
 use Rattle.clause.proofs.Bits.{at_or, at_xor, at_zero, at_none, same_words, Highest, highest_of, highest_none}
 
 -- a treatment is 0 exactly where the atom is absent
@@ -197,3 +200,16 @@ lower_to (suc k) c d l =
 
 pub before_rank : (c d : Literals) → rank c < rank d → Before c d
 before_rank c d l = let r = lower_to 64 c d l in record { atom = r.atom; within = r.within; lower = r.lower; alike = r.alike }
+
+-- the comparison's answer as one function
+abbrev later : Clause → Clause → Ordering
+later = then_cmp (on (λ c. c.positive) nat_cmp) (on (λ c. c.negative) nat_cmp)
+
+pub valued : (c d : Clause) → Words c → Words d → (o : Ordering) → Compares (rank (lits c)) (rank (lits d)) o → o ≡ clause_cmp c d
+valued c d f g Less h = ap (λ k. ordering_then k (later c d)) (nat_cmp_is (rank (lits c)) (rank (lits d)) Less h)
+valued c d f g Greater h = ap (λ k. ordering_then k (later c d)) (nat_cmp_is (rank (lits c)) (rank (lits d)) Greater h)
+valued c d f g Equal h =
+    let e = alike_words (lits c) (lits d) (apart_word _ _ c.apart) (apart_word _ _ d.apart) f.0 g.0 f.1 g.1 h in
+    let n = nat_cmp_is c.negative d.negative Equal e.1 in
+    let p = ap (λ k. ordering_then k (nat_cmp c.negative d.negative)) (nat_cmp_is c.positive d.positive Equal e.0) in
+    (n ∙ p) ∙ ap (λ k. ordering_then k (later c d)) (nat_cmp_is (rank (lits c)) (rank (lits d)) Equal h)

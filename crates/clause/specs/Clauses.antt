@@ -1,5 +1,5 @@
 -- Sets of literals, their truth under a valuation, and their highest atom.
-use Rattle.std.specs.Prelude.{◌≡◌, ℕ, zero, suc, Bool, true, false, cond, not, ◌&&◌, ◌||◌, T, Some, None, Option, ◌==◌, bit_and, bit_or}
+use Rattle.std.specs.Prelude.{◌≡◌, ℕ, zero, suc, ◌^◌, ◌<◌, Bool, true, false, cond, not, ◌&&◌, ◌||◌, T, Some, None, Option, ◌==◌, bit_and, bit_or}
 use Rattle.std.proofs.Common.{eqb→eq}
 use Rattle.clause.specs.declared.words.Clause.{Clause}
 use Rattle.clause.specs.Words.{at, without}
@@ -37,6 +37,10 @@ top_to (suc k) c = cond (has c (suc k)) (suc k) (top_to k c)
 -- the highest atom of c, 0 for the empty clause
 abbrev pub top : Literals → ℕ
 top c = top_to 64 c
+
+-- both words fit in 64 bits, as those of every clause in a program do
+abbrev pub Words : Clause → Type 0
+Words c = (c.positive < 2 ^ 64) × (c.negative < 2 ^ 64)
 
 abbrev pub clause_if : (p n : ℕ) (b : Bool) → (T b → bit_and p n ≡ 0) → Option Clause
 clause_if p n true f = Some (record { positive = p; negative = n; apart = f tt })

@@ -1,5 +1,5 @@
 -- What each refusal says: its number, its place and its layer.
-use Rattle.std.specs.Prelude.{ℕ, cond, ◌&&◌, Ok, Err, Result, ◌==◌, nat_le}
+use Rattle.std.specs.Prelude.{ℕ, cond, ◌&&◌, Ok, Err, Result, ◌==◌, nat_le, List, ◌++◌, codes, decimal}
 use Rattle.clause.specs.declared.refusal.Refusal.{Refusal}
 use Rattle.clause.specs.declared.refusal.Refusal.TheVariants.{AtomCount, NoPlaces, StoreHoldsEntry, TooLarge, MalformedWord, OutOfRange, BothSigns, NoLiteral, ClauseCount, NoPlaceFree, NoVerdict, TooShort, DerivedBothSigns, BudgetUsedUp, WrongTrailer, WrongLine, ClosedEarly, BadName, NoNamePlace}
 
@@ -40,3 +40,7 @@ told NoNamePlace = refused 20 0
 abbrev pub answer : {X : Type 0} → Result X Refusal → Result X Told
 answer (Ok x) = Ok x
 answer (Err e) = Err (told e)
+
+-- what is printed of a refusal
+abbrev pub told_text : Told → List ℕ
+told_text t = codes "refused " ++ (decimal t.number ++ (codes " at " ++ (decimal t.place ++ (codes " in layer " ++ decimal t.layer))))

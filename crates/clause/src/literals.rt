@@ -43,16 +43,14 @@ impl Clause {
             if is_outside(atom, atoms) {
                 return Err(Refusal::OutOfRange(i));
             }
-            match clause.grow(*l, atom) {
-                Some(grown) => clause = grown,
-                None => return Err(Refusal::BothSigns(i)),
-            }
+            clause = clause.grow(*l, atom).ok_or(Refusal::BothSigns(i))?;
         }
         Ok(clause)
     }
 }
 
-fn is_outside(atom: u32, atoms: u32) -> bool
+// Whether the atom is none of those from 1 to the lesser of `atoms` and 64.
+pub fn is_outside(atom: u32, atoms: u32) -> bool
     ensures { result ≡ outside atoms atom }
 {
     atom == 0 || atom > atoms.min(64)

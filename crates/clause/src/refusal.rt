@@ -1,9 +1,12 @@
-ghost use Rattle.std.specs.Prelude.{◌≡◌};
-ghost use Rattle.clause.specs.Refusals.{told};
+ghost use Rattle.std.specs.Prelude.{◌≡◌, Some};
+ghost use Rattle.clause.specs.Refusals.{told, told_text};
+
+use std::error::Error;
+use std::fmt;
 
 // Why a call was refused, a run stopped or a trace is no proof, named by what happened. A place is a byte of a text or an index of a literal, from 0,
 // or of a trace the first wrong line or the count of lines taken.
-#[derive(Clone, Copy)]
+#[derive(Clone, Copy, Debug, PartialEq, Eq)]
 pub enum Refusal {
     AtomCount,
     NoPlaces,
@@ -57,13 +60,13 @@ impl Refusal {
         ensures { result ≡ (told self.now).place }
     {
         match self {
-            Refusal::MalformedWord(place) => *place,
-            Refusal::OutOfRange(place) => *place,
-            Refusal::BothSigns(place) => *place,
-            Refusal::NoLiteral(place) => *place,
-            Refusal::ClauseCount(place) => *place,
-            Refusal::WrongLine(place) => *place,
-            Refusal::ClosedEarly(place) => *place,
+            Refusal::MalformedWord(place)
+            | Refusal::OutOfRange(place)
+            | Refusal::BothSigns(place)
+            | Refusal::NoLiteral(place)
+            | Refusal::ClauseCount(place)
+            | Refusal::WrongLine(place)
+            | Refusal::ClosedEarly(place) => *place,
             _ => 0,
         }
     }
@@ -82,3 +85,17 @@ impl Refusal {
         }
     }
 }
+
+// The number, the place and the layer.
+impl fmt::Display for Refusal {
+    ghost output = { λ r. Some (told_text (told r)) };
+
+    fn fmt<W: fmt::Write>(&self, f: &mut fmt::Formatter<W>) -> fmt::Result {
+        let number = self.number();
+        let place = self.place();
+        let layer = self.layer();
+        write!(f, "refused {number} at {place} in layer {layer}")
+    }
+}
+
+impl Error for Refusal {}

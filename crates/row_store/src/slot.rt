@@ -78,6 +78,6 @@ impl Record for Slot {
     ghost key = { place };
 
     fn order(&self, other: &Slot) -> Ordering {
-        self.clause.compare(&other.clause)
+        self.clause.cmp(&other.clause)
     }
 }

@@ -86,7 +86,7 @@ impl SkipList<'_> {
         let held = self.record(k).clause;
         words_fit(&held);
         words_fit(clause);
-        held.compare(clause)
+        held.cmp(clause)
     }
 
     // Whether entry k comes before the clause.

@@ -19,7 +19,7 @@ impl Plain {
     // The index of the clause.
     pub fn find(&self, clause: &Clause) -> Option<usize> {
         for (i, entry) in self.entries.iter().enumerate() {
-            if entry.clause.same(clause) {
+            if entry.clause == *clause {
                 return Some(i);
             }
         }
@@ -59,7 +59,7 @@ impl Plain {
 }
 
 fn is_before(clause: &Clause, other: &Clause) -> bool {
-    match clause.compare(other) {
+    match clause.cmp(other) {
         Ordering::Less => true,
         _ => false,
     }

@@ -130,7 +130,7 @@ fn compare(
 fn same_entry(one: &Entry, other: &Entry) -> bool
     ensures { result ≡ same_entry one.now other.now }
 {
-    one.clause.same(&other.clause) && one.first == other.first && one.second == other.second
+    one.clause == other.clause && one.first == other.first && one.second == other.second
 }
 
 fn same_entries(one: Option<Entry>, other: Option<Entry>) -> bool

@@ -7,6 +7,6 @@ pub returns : goal.returns
 returns c =
     let e = ap (λ x. x.clause) c.record.ensures in
     record {
-      spots = compares c.args.self.now.records.now c.args.k c.args.clause.now c.record.result.clause c.compare.result c.requires.0 e c.compare.ensures.ranks;
+      spots = compares c.args.self.now.records.now c.args.k c.args.clause.now c.record.result.clause c.cmp.result c.requires.0 e c.cmp.ensures.ranks;
       words = (subst Words e c.words_fit.ensures, c.words_fit-2.ensures);
     }
