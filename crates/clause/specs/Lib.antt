@@ -3,3 +3,4 @@ pub mod Clauses
 pub mod Order
 pub mod Reading
 pub mod Refusals
+pub mod Texts

@@ -6,5 +6,6 @@ pub mod literals;
 pub mod order;
 pub mod refusal;
 pub mod resolve;
+pub mod text;
 pub mod truth;
 pub mod words;

@@ -1,7 +1,7 @@
 ghost use Rattle.std.specs.Prelude.{◌≡◌, bit_and};
 
 // A set of literals in which no atom stands in both signs: atom a is worth 2^(a - 1) in either word. Equal clauses have the same literals.
-#[derive(Clone, Copy, PartialEq, Eq)]
+#[derive(Clone, Copy, Debug, PartialEq, Eq)]
 pub struct Clause {
     pub(crate) positive: u64,
     pub(crate) negative: u64,

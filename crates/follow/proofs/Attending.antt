@@ -1,7 +1,6 @@
 -- The lines of a session, one by one.
-use Rattle.std.proofs.Common.{◌≡◌, ℕ, suc, ◌+◌, ◌<◌, ◌≤◌, true, cond, List, ◌∷◌, length, get_or, drop, Some, None, Option, sym, refl, ap, ◌∙◌, subst, arith}
-use Rattle.std.proofs.lemmas.List.{drop_more, drop_all}
-use Rattle.std.proofs.lemmas.Bool.{cond-true, false≢true}
+use Rattle.std.proofs.Common.{◌≡◌, ℕ, suc, true, false, List, [], ◌∷◌, drop, Some, None, Option, sym, refl, ap, ◌∙◌}
+use Rattle.std.proofs.lemmas.Bool.{cond-true, cond-false, false≢true}
 use Rattle.store.specs.Held.{Held}
 use Rattle.session.specs.declared.search.Search.{Search}
 use Rattle.session.specs.Steps.{After, after}
@@ -16,61 +15,48 @@ opened go (Some (Open k p)) h s n t = refl
 opened go (Some (Ask c)) h s n t = absurd (false≢true t)
 opened go None h s n t = absurd (false≢true t)
 
--- what is kept before line i: where the session's lines end, and what its calls come to
-pub record Sofar (ls : List Line) (from i : ℕ) (h h0 : Held) (s s0 : Search) (n : ℕ) : Type 0 where
-  pub within : i ≤ length ls
-  pub index : i + until_open (drop i ls) ≡ from + until_open (drop from ls)
-  pub calls : attended (drop i ls) h s n ≡ attended (drop from ls) h0 s0 1
+-- where the session's lines end
+abbrev pub ending : List Line → List Line
+ending ls = drop (until_open ls) ls
 
-pub none_yet : (ls : List Line) (from : ℕ) (h : Held) (s : Search) → from ≤ length ls → Sofar ls from from h h s s 1
-none_yet ls from h s l = record { within = l; index = refl; calls = refl }
+-- what is kept before the lines that are left: where the session's lines end, and what its calls come to
+pub record Sofar (ls rest : List Line) (h h0 : Held) (s s0 : Search) (n : ℕ) : Type 0 where
+  pub ends : ending rest ≡ ending ls
+  pub calls : attended rest h s n ≡ attended ls h0 s0 1
 
-module _ (ls : List Line) (from i : ℕ) (h h0 : Held) (s s0 : Search) (n : ℕ) (old : Sofar ls from i h h0 s s0 n) where
-  -- what the sessions lines come to where none is left
-  pub no_more : length ls ≤ i → (i ≡ from + until_open (drop from ls)) × ((m : ℕ) × (after h s m ≡ attended (drop from ls) h0 s0 1))
+pub none_yet : (ls : List Line) (h : Held) (s : Search) → Sofar ls ls h h s s 1
+none_yet ls h s = record { ends = refl; calls = refl }
+
+module _ (ls rest : List Line) (h h0 : Held) (s s0 : Search) (n : ℕ) (old : Sofar ls rest h h0 s s0 n) where
+  -- what the session's lines come to where none is left
+  pub no_more : rest ≡ [] → (rest ≡ ending ls) × ((m : ℕ) × (after h s m ≡ attended ls h0 s0 1))
   unfolding until_open attended
-  no_more l =
-      let none = drop_all i ls l in
-      let zero_left : until_open (drop i ls) ≡ 0 = ap until_open none in
-      (omega (arith, old.index), (n, ap (λ xs. attended xs h s n) (sym none) ∙ old.calls))
+  no_more e = (e ∙ sym (ap ending e) ∙ old.ends, (n, ap (λ xs. attended xs h s n) (sym e) ∙ old.calls))
 
-  module _ (x : Line) (l : i < length ls) (is : x ≡ get_or ls i x) where
-    here : drop i ls ≡ x ∷ drop (i + 1) ls
-    here = drop_more ls i x l ∙ ap (λ y. y ∷ drop (i + 1) ls) (sym is)
-
-    until : until_open (drop i ls) ≡ cond (opening x.request) 0 (suc (until_open (drop (i + 1) ls)))
+  module _ (x : Line) (xs : List Line) (is : rest ≡ x ∷ xs) where
+    stays : opening x.request ≡ true → ending (x ∷ xs) ≡ x ∷ xs
     unfolding until_open
-    until = ap until_open here
+    stays t = ap (λ k. drop k (x ∷ xs)) (cond-true (opening x.request) 0 (suc (until_open xs)) t)
 
-    go : attended (drop i ls) h s n ≡ attended_at (attended (drop (i + 1) ls)) x.request h s n
+    moves : opening x.request ≡ false → ending (x ∷ xs) ≡ ending xs
+    unfolding until_open
+    moves f = ap (λ k. drop k (x ∷ xs)) (cond-false (opening x.request) 0 (suc (until_open xs)) f)
+
+    go : attended rest h s n ≡ attended_at (attended xs) x.request h s n
     unfolding attended
-    go = ap (λ xs. attended xs h s n) here
+    go = ap (λ ys. attended ys h s n) is
 
-    pub stops : opening x.request ≡ true → (i ≡ from + until_open (drop from ls)) × ((m : ℕ) × (after h s m ≡ attended (drop from ls) h0 s0 1))
-    stops t =
-        let zero_left : until_open (drop i ls) ≡ 0 = until ∙ cond-true _ _ _ t in
-        (omega (arith, old.index), (n, sym (opened (attended (drop (i + 1) ls)) x.request h s n t) ∙ sym go ∙ old.calls))
+    pub stops : opening x.request ≡ true → (rest ≡ ending ls) × ((m : ℕ) × (after h s m ≡ attended ls h0 s0 1))
+    stops t = (is ∙ sym (stays t) ∙ sym (ap ending is) ∙ old.ends, (n, sym (opened (attended xs) x.request h s n t) ∙ sym go ∙ old.calls))
 
-    pub performs : (c : Call) (h' : Held) (s' : Search) (m : ℕ) → x.request ≡ Some (Ask c) → after h' s' m ≡ performed h s n c → Sofar ls from (i + 1) h' h0 s' s0 m
-    performs c h' s' m e p =
-        let one_more : until_open (drop i ls) ≡ suc (until_open (drop (i + 1) ls)) = until ∙ ap (λ r. cond (opening r) 0 (suc (until_open (drop (i + 1) ls)))) e in
-        record {
-          within = omega arith;
-          index = omega (arith, old.index);
-          calls = (λ j. attended (drop (i + 1) ls) (p j).held (p j).search (p j).answer) ∙ sym (ap (λ r. attended_at (attended (drop (i + 1) ls)) r h s n) e) ∙ sym go ∙ old.calls;
-        }
+    pub performs : (c : Call) (h' : Held) (s' : Search) (m : ℕ) → x.request ≡ Some (Ask c) → after h' s' m ≡ performed h s n c → Sofar ls xs h' h0 s' s0 m
+    performs c h' s' m e p = record {
+      ends = sym (moves (ap opening e)) ∙ sym (ap ending is) ∙ old.ends;
+      calls = (λ j. attended xs (p j).held (p j).search (p j).answer) ∙ sym (ap (λ r. attended_at (attended xs) r h s n) e) ∙ sym go ∙ old.calls;
+    }
 
-    pub passes : x.request ≡ None → Sofar ls from (i + 1) h h0 s s0 n
-    passes e =
-        let one_more : until_open (drop i ls) ≡ suc (until_open (drop (i + 1) ls)) = until ∙ ap (λ r. cond (opening r) 0 (suc (until_open (drop (i + 1) ls)))) e in
-        record {
-          within = omega arith;
-          index = omega (arith, old.index);
-          calls = sym (ap (λ r. attended_at (attended (drop (i + 1) ls)) r h s n) e) ∙ sym go ∙ old.calls;
-        }
-
--- the same of a session and a count that are called otherwise
-pub moved : {X : Type 0} (held : X → Held) (search : X → Search) (lent : X → ℕ) (ls : List Line) (from i : ℕ) (h0 : Held) (s0 : Search) (x y : X) (n m k : ℕ)
-    → y ≡ x → m ≡ n → Sofar ls from i (held x) h0 (search x) s0 n → lent x ≡ k → Sofar ls from i (held y) h0 (search y) s0 m × (lent y ≡ k)
-moved held search lent ls from i h0 s0 x y n m k e p old same =
-    subst (λ z. Sofar ls from i (held z) h0 (search z) s0 m × (lent z ≡ k)) (sym e) (subst (λ a. Sofar ls from i (held x) h0 (search x) s0 a) (sym p) old, same)
+    pub passes : x.request ≡ None → Sofar ls xs h h0 s s0 n
+    passes e = record {
+      ends = sym (moves (ap opening e)) ∙ sym (ap ending is) ∙ old.ends;
+      calls = sym (ap (λ r. attended_at (attended xs) r h s n) e) ∙ sym go ∙ old.calls;
+    }

@@ -1,7 +1,10 @@
-ghost use Rattle.std.specs.Prelude.{◌≡◌, ℕ, ◌+◌, ◌<◌, Bool, length, drop, IfOk, OnOk};
+ghost use Rattle.std.specs.Prelude.{◌≡◌, ℕ, ◌<◌, drop, IfOk, OnOk};
+ghost use Rattle.reply.specs.Replies.{reply_of, spent};
 ghost use Rattle.session.specs.Steps.{after};
 ghost use Rattle.follow.specs.Sessions.{next, walked, performed, attended, until_open};
 
+use clause::refusal::Refusal;
+use notes::{no_session, not_understood};
 use render::{counts_text, item_text};
 use reply::answer::Answer;
 use reply::calls::{add_clause, run_steps, show_valuation, walk_once};
@@ -14,7 +17,12 @@ use std::io;
 use store::store::ClauseStore;
 
 // Prints an item after `items` others, and answers how many there are then.
-fn print_item(rt: &HostRuntime, items: u64, call: &str, answer: Answer) -> io::Result<u64>
+fn print_item(
+    rt: &HostRuntime,
+    items: u64,
+    call: &str,
+    answer: Result<Answer, Refusal>,
+) -> io::Result<u64>
     ensures { IfOk result (λ n. n ≡ next items) }
 {
     let number = items.saturating_add(1);
@@ -31,14 +39,11 @@ fn print_counts<S: ClauseStore>(rt: &HostRuntime, session: &Session<'_, S>) -> i
     )?)
 }
 
-fn not_understood(rt: &HostRuntime, line: &Line) -> io::Result<()> {
-    let number = line.number;
-    println!(rt; "line {number}: not understood")
-}
-
-fn no_session(rt: &HostRuntime, line: &Line) -> io::Result<()> {
-    let number = line.number;
-    println!(rt; "line {number}: no session")
+// Whether it is that of a run which its budget ended.
+fn is_spent(answer: Result<Answer, Refusal>) -> bool
+    ensures { result ≡ spent (reply_of answer) }
+{
+    answer.is_ok_and(|a| a.is_spent())
 }
 
 // At most `most` runs with budget 1, until one ends otherwise than by its budget.
@@ -55,7 +60,7 @@ fn walk<S: ClauseStore>(
     for _ in 0..most {
         let answer = walk_once(session);
         items = print_item(rt, items, "run 1", answer)?;
-        if !answer.is_spent() {
+        if !is_spent(answer) {
             return Ok(items);
         }
     }
@@ -85,24 +90,21 @@ fn perform<S: ClauseStore>(
     }
 }
 
-// The lines after `at` up to the next that opens a session: its index, or the count of lines where there is none.
-fn attend<S: ClauseStore>(
+// Performs the lines up to the next that opens a session: the lines from that one on.
+fn attend<'a, S: ClauseStore>(
     rt: &HostRuntime,
-    lines: &[Line],
-    at: usize,
+    lines: &'a [Line],
     session: &mut Session<'_, S>,
-) -> io::Result<usize>
-    requires { at < length lines.now }
-    ensures next { IfOk result (λ i. i ≡ at + 1 + until_open (drop (at + 1) lines.now)) }
+) -> io::Result<&'a [Line]>
+    ensures next { IfOk result (λ r. r.now ≡ drop (until_open lines.now) lines.now) }
     ensures named { session.new.store.ghost_name ≡ session.old.store.ghost_name }
-    ensures calls { OnOk result ((n : ℕ) × (after (S.held session.new.store.now) session.new.search n ≡ attended (drop (at + 1) lines.now) (S.held session.old.store.now) session.old.search 1)) }
+    ensures calls { OnOk result ((n : ℕ) × (after (S.held session.new.store.now) session.new.search n ≡ attended lines.now (S.held session.old.store.now) session.old.search 1)) }
 {
     let mut items = 1;
-    let mut i = at + 1;
-    while i < lines.len() {
-        let line = &lines[i];
+    let mut rest = lines;
+    while let Some((line, after)) = rest.split_first() {
         match &line.request {
-            Some(Request::Open(_, _)) => return Ok(i),
+            Some(Request::Open(_, _)) => return Ok(rest),
             Some(Request::Ask(call)) => items = perform(
                 rt,
                 session,
@@ -110,66 +112,64 @@ fn attend<S: ClauseStore>(
                 line.call.as_str(),
                 call,
             )?,
-            None => not_understood(rt, line)?,
+            None => rt.println(not_understood(rt.alloc(), line.number)?)?,
         }
-        i += 1;
+        rest = after;
     }
-    Ok(i)
+    Ok(rest)
 }
 
-// The session that line `at` opens over the store; the index of the next line that opens one.
-fn follow_session<S: ClauseStore>(
+// The session that the call opens over the store, and the lines after it: those from the next that opens a session on.
+fn follow_session<'a, S: ClauseStore>(
     rt: &HostRuntime,
-    lines: &[Line],
-    at: usize,
+    call: &str,
+    lines: &'a [Line],
     atoms: u32,
     store: &mut S,
-) -> io::Result<usize>
-    requires { at < length lines.now }
-    ensures { IfOk result (λ i. i ≡ at + 1 + until_open (drop (at + 1) lines.now)) }
+) -> io::Result<&'a [Line]>
+    ensures { IfOk result (λ r. r.now ≡ drop (until_open lines.now) lines.now) }
 {
     let opened = match due_at_opening(atoms, store) {
-        None => Answer::Opened,
-        Some(refusal) => Answer::Refused(refusal),
+        None => Ok(Answer::Opened),
+        Some(refusal) => Err(refusal),
     };
-    let _ = print_item(rt, 0, lines[at].call.as_str(), opened)?;
+    let _ = print_item(rt, 0, call, opened)?;
     let mut session = Session::open(atoms, store);
-    attend(rt, lines, at, &mut session)
+    attend(rt, lines, &mut session)
 }
 
 // The same over a row of that many records.
-fn over_row(
+fn over_row<'a>(
     rt: &HostRuntime,
-    lines: &[Line],
-    at: usize,
+    call: &str,
+    lines: &'a [Line],
     atoms: u32,
     places: u32,
-) -> io::Result<usize>
-    requires { at < length lines.now }
-    ensures { IfOk result (λ i. i ≡ at + 1 + until_open (drop (at + 1) lines.now)) }
+) -> io::Result<&'a [Line]>
+    ensures { IfOk result (λ r. r.now ≡ drop (until_open lines.now) lines.now) }
 {
     let heap = rt.alloc();
     let mut slots = vec![in heap; Slot::blank(); places as usize]?;
     let mut seats = vec![in heap; 0u16; places as usize]?;
     let mut store = RowStore::new(&mut slots, &mut seats);
-    follow_session(rt, lines, at, atoms, &mut store)
+    follow_session(rt, call, lines, atoms, &mut store)
 }
 
 // The whole script.
 pub fn follow(rt: &HostRuntime, lines: &[Line]) -> io::Result<()> {
-    let mut i = 0;
-    while i < lines.len() {
-        let line = &lines[i];
+    let mut rest = lines;
+    while let Some((line, after)) = rest.split_first() {
+        rest = after;
         match &line.request {
-            Some(Request::Open(atoms, places)) => i = over_row(rt, lines, i, *atoms, *places)?,
-            Some(Request::Ask(_)) => {
-                no_session(rt, line)?;
-                i += 1;
-            }
-            None => {
-                not_understood(rt, line)?;
-                i += 1;
-            }
+            Some(Request::Open(atoms, places)) => rest = over_row(
+                rt,
+                line.call.as_str(),
+                after,
+                *atoms,
+                *places,
+            )?,
+            Some(Request::Ask(_)) => rt.println(no_session(rt.alloc(), line.number)?)?,
+            None => rt.println(not_understood(rt.alloc(), line.number)?)?,
         }
     }
     Ok(())

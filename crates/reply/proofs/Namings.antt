@@ -7,7 +7,7 @@ use Rattle.clause.proofs.Bits.{at_with}
 use Rattle.store.specs.declared.entry.Entry.{Entry}
 use Rattle.session.specs.declared.report.Tally.{Tally}
 use Rattle.session.specs.declared.search.Search.{Search}
-use Rattle.session.specs.Searching.{reason_in, reason_of, setting}
+use Rattle.session.specs.Searching.{reason_in, reason_in, reason_of, setting}
 use Rattle.reply.specs.declared.action.Action.{Action}
 use Rattle.reply.specs.Actions.{gained_to, set_by, set_in, action_of, NamesSettings}
 use Rattle.reply.proofs.Gains.{found, absent, old}
@@ -54,3 +54,8 @@ names_settings s t made size last r is p k z h new l e some =
     is ∙ cond-true (ltb 0 made.settings) _ _ (lt-ltb 0 made.settings some) ∙
     ap (λ w. set_in t (gained_to 64 s.valuation w)) word ∙ ap (set_in t) (gained_is s.valuation p z new h) ∙
     ap (set_by p) (ap (λ x. reason_of x p) e ∙ reason_is s p k z h l)
+
+-- where no atom became true, no setting is named
+pub none_named : (s t : Search) (made : Tally) (size : ℕ) (last : Option Entry) → 0 < made.settings → gained_to 64 s.valuation t.valuation ≡ 0 → None ≡ action_of s t made size last
+unfolding reason_in
+none_named s t made size last some e = sym (cond-true (ltb 0 made.settings) _ _ (lt-ltb 0 made.settings some) ∙ ap (set_in t) e)

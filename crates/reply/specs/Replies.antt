@@ -1,15 +1,15 @@
 -- What the calls on a session answer, and where they leave the session and its store.
 use Rattle.std.specs.Prelude.{ℕ, Bool, false, Ok, Err, Option, Result, ◌==◌}
+use Rattle.clause.specs.declared.refusal.Refusal.{Refusal}
 use Rattle.clause.specs.Refusals.{Told, told}
 use Rattle.store.specs.Held.{Held, size, entry_at}
-use Rattle.session.specs.declared.report.Report.{Report}
 use Rattle.session.specs.declared.search.Search.{Search}
 use Rattle.session.specs.Calls.{run}
-use Rattle.session.specs.Reports.{Said, satisfiable, unsatisfiable, stopped, said, Ended}
+use Rattle.session.specs.Reports.{Said, satisfiable, unsatisfiable, stopped, said, end_of, Ended}
 use Rattle.session.specs.Steps.{After, after}
 use Rattle.reply.specs.declared.action.Action.{Action}
 use Rattle.reply.specs.declared.answer.Answer.{Answer}
-use Rattle.reply.specs.declared.answer.Answer.TheVariants.{Opened, Entry, Ran, Stepped, Shown, Refused}
+use Rattle.reply.specs.declared.answer.Answer.TheVariants.{Opened, Entry, Ran, Stepped, Shown}
 use Rattle.reply.specs.Actions.{action_of}
 
 -- an answer by its values: an opening, the number of an entry, the end of a run, a step with the end of its run,
@@ -22,16 +22,16 @@ pub data Reply : Type 0 where
   valued : ℕ → ℕ → Reply
   denied : Told → Reply
 
-abbrev pub end_of : Report → Ended
-end_of r = record { outcome = said r.outcome; made = r.made }
+abbrev pub reply_in : Answer → Reply
+reply_in Opened = opened
+reply_in (Entry k) = entered k
+reply_in (Ran r) = ended (end_of r)
+reply_in (Stepped a o) = stepped a (said o)
+reply_in (Shown v) = valued v.word v.atoms
 
-abbrev pub reply_of : Answer → Reply
-reply_of Opened = opened
-reply_of (Entry k) = entered k
-reply_of (Ran r) = ended (end_of r)
-reply_of (Stepped a o) = stepped a (said o)
-reply_of (Shown v n) = valued v n
-reply_of (Refused e) = denied (told e)
+abbrev pub reply_of : Result Answer Refusal → Reply
+reply_of (Ok a) = reply_in a
+reply_of (Err e) = denied (told e)
 
 abbrev pub add_reply : Result ℕ Told → Reply
 add_reply (Ok k) = entered k

@@ -1,39 +1,38 @@
-ghost use Rattle.std.specs.Prelude.{◌≡◌, ℕ};
+ghost use Rattle.std.specs.Prelude.{◌≡◌, ℕ, ◌<◌, Some, MatchOption};
 ghost use Rattle.reply.specs.Actions.{gained_to, set_in, derived_by, action_of, NamesSettings};
+ghost use Rattle.reply.specs.Texts.{action_text};
 
 use clause::truth::stands;
 use session::report::Tally;
 use session::search::{Phase, Search};
+use std::fmt;
 use store::entry::Entry;
 
 // What a step did: it set an atom by an entry, it derived the entry of a number, or it derived the empty clause from two entries.
-#[derive(Clone, Copy)]
+#[derive(Clone, Copy, Debug, PartialEq, Eq)]
 pub enum Action {
     Set(u32, u16),
     Derive(u16, Entry),
     Refute(u16, u16),
 }
 
-// The highest atom that stands in the second word and not in the first, 0 where none does.
-fn gained(before: u64, after: u64) -> u32
-    ensures { result ≡ gained_to 64 before after }
+// The highest atom that stands in the second word and not in the first.
+fn gained(before: u64, after: u64) -> Option<u32>
+    ensures { MatchOption result (gained_to 64 before after ≡ 0) (λ p. p ≡ gained_to 64 before after) }
 {
     for atom in (1..65).rev() {
         if stands(after, atom) && !stands(before, atom) {
-            return atom;
+            return Some(atom);
         }
     }
-    0
+    None
 }
 
 // The atom that was set, with its reason.
 fn setting(after: &Search, atom: u32) -> Option<Action>
     ensures { result ≡ set_in after.now atom }
 {
-    match after.reason(atom) {
-        Some(k) => Some(Action::Set(atom, k)),
-        None => None,
-    }
+    after.reason(atom).map(|k| Action::Set(atom, k))
 }
 
 // The kept pair of a refuted session, or else the entry that was derived last.
@@ -59,10 +58,28 @@ pub fn action_between(
     ensures settings { NamesSettings before.now after.now made result }
 {
     if made.settings > 0 {
-        return setting(after, gained(before.valuation, after.valuation));
+        let atom = gained(before.valuation, after.valuation)?;
+        return setting(after, atom);
     }
     if made.derivations > 0 {
         return derivation(after.phase, size, last);
     }
     None
+}
+
+impl fmt::Display for Action {
+    ghost output = { λ a. Some (action_text a) };
+
+    fn fmt<W: fmt::Write>(&self, f: &mut fmt::Formatter<W>) -> fmt::Result {
+        match self {
+            Action::Set(atom, reason) => write!(f, "set {atom} by {reason}"),
+            Action::Refute(first, second) => write!(f, "derive empty from {first} and {second}"),
+            Action::Derive(number, entry) => {
+                let first = entry.first;
+                let second = entry.second;
+                let clause = entry.clause;
+                write!(f, "derive {number} from {first} and {second}: {clause}")
+            }
+        }
+    }
 }

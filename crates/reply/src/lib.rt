@@ -4,3 +4,4 @@
 pub mod action;
 pub mod answer;
 pub mod calls;
+pub mod valuation;

@@ -35,6 +35,9 @@ pub record Ended : Type 0 where
   pub outcome : Said
   pub made : Tally
 
+abbrev pub end_of : Report → Ended
+end_of r = record { outcome = said r.outcome; made = r.made }
+
 abbrev pub run_answer : Result Report Refusal → Result Ended Told
-run_answer (Ok r) = Ok (record { outcome = said r.outcome; made = r.made })
+run_answer (Ok r) = Ok (end_of r)
 run_answer (Err e) = Err (told e)

@@ -1,6 +1,7 @@
 -- How the search part of a session changes.
-use Rattle.std.specs.Prelude.{ℕ, zero, suc, ◌-◌, cond, List, ◌++◌, take, replicate, Some, None, Option, slice_index_or, slice_set}
+use Rattle.std.specs.Prelude.{◌≡◌, ℕ, zero, suc, ◌-◌, cond, List, ◌++◌, take, replicate, Some, None, Option, slice_index_or, slice_set}
 use Rattle.clause.specs.declared.words.Clause.{Clause}
+use Rattle.clause.specs.declared.refusal.Refusal.{Refusal}
 use Rattle.clause.specs.Clauses.{lits, makes, top}
 use Rattle.clause.specs.Words.{with_atom, upto}
 use Rattle.session.specs.declared.search.Search.{Search}
@@ -12,6 +13,10 @@ use Rattle.session.specs.Reports.{none_made, counted, more}
 -- nothing true, nothing counted
 abbrev pub fresh : ℕ → Phase → Search
 fresh n ph = record { atoms = n; phase = ph; valuation = 0; reasons = replicate 64 None; made = none_made; given = 0 }
+
+-- a session that was not refused at its opening
+abbrev pub WasOpened : Phase → Type 0
+WasOpened ph = (e : Refusal) → ph ≡ Unopened e → ⊥
 
 -- the reason of atom p, from 1
 unfoldable pub reason_in : List (Option ℕ) → ℕ → Option ℕ

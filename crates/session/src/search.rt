@@ -1,6 +1,7 @@
-ghost use Rattle.std.specs.Prelude.{◌≡◌, ℕ, ◌-◌, ◌<◌, ◌≤◌, ◌++◌, length, take, replicate, None};
+ghost use Rattle.std.specs.Prelude.{◌≡◌, ℕ, ◌-◌, ◌<◌, ◌≤◌, ◌++◌, length, take, replicate, None, MatchResult};
 ghost use Rattle.clause.specs.Words.{upto};
-ghost use Rattle.session.specs.Searching.{fresh, setting, cleared, derived, refuted, satisfied, admitted, reason_in, reason_of, withdrawn};
+ghost use Rattle.session.specs.Searching.{fresh, setting, cleared, derived, refuted, satisfied, admitted, reason_in, reason_of, withdrawn, WasOpened};
+ghost use Rattle.session.specs.declared.search.Phase.TheVariants.{Unopened};
 
 use crate::report::{Step, Tally};
 use clause::refusal::Refusal;
@@ -41,6 +42,16 @@ impl Search {
         }
     }
 
+    // Refused as the opening was.
+    pub(crate) fn check_opened(&self) -> Result<(), Refusal>
+        ensures { MatchResult result (λ _. WasOpened self.now.phase) (λ e. self.now.phase ≡ Unopened e) }
+    {
+        match self.phase {
+            Phase::Unopened(e) => Err(e),
+            _ => Ok(()),
+        }
+    }
+
     // The reason of the atom, nothing where it has none.
     pub fn reason(&self, atom: u32) -> Option<u16>
         ensures { result ≡ reason_of self.now atom }
@@ -53,7 +64,7 @@ impl Search {
         requires { (0 < atom) × (atom ≤ 64) }
         ensures { self.new ≡ setting self.old atom number }
     {
-        self.valuation = self.valuation | (1 << (atom - 1));
+        self.valuation |= 1 << (atom - 1);
         self.reasons[atom as usize - 1] = Some(number);
         self.made = self.made.counted(Step::Setting);
     }
@@ -106,10 +117,8 @@ impl Search {
 fn reason_in(reasons: &[Option<u16>; 64], atom: u32) -> Option<u16>
     ensures { result ≡ reason_in reasons.now atom }
 {
-    if atom == 0 || atom > 64 {
-        return None;
-    }
-    reasons[atom as usize - 1]
+    let index = (atom as usize).checked_sub(1)?;
+    *reasons.get(index)?
 }
 
 fn withdraw(phase: Phase) -> Phase
@@ -136,7 +145,5 @@ fn forget(reasons: &mut [Option<u16>; 64], highest: usize)
     requires { highest ≤ 64 }
     ensures { reasons.new ≡ take highest reasons.old ++ replicate (64 - highest) None }
 {
-    for i in highest..64 {
-        reasons[i] = None;
-    }
+    reasons[highest..].fill(None);
 }

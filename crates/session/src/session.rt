@@ -46,10 +46,7 @@ pub fn due_at_opening<S: ClauseStore>(atoms: u32, store: &S) -> Option<Refusal>
 fn phase_of(refusal: Option<Refusal>) -> Phase
     ensures { result ≡ opening refusal }
 {
-    match refusal {
-        None => Phase::Undecided,
-        Some(e) => Phase::Unopened(e),
-    }
+    refusal.map_or(Phase::Undecided, |e| Phase::Unopened(e))
 }
 
 impl<'a, S: ClauseStore> Session<'a, S> {
@@ -71,13 +68,9 @@ impl<'a, S: ClauseStore> Session<'a, S> {
         ensures named { self.new.store.ghost_name ≡ self.old.store.ghost_name }
         ensures made { after (S.held self.new.store.now) self.new.search (answer result) ≡ add (S.held self.old.store.now) self.old.search literals.now }
     {
-        if let Phase::Unopened(e) = self.search.phase {
-            return Err(e);
-        }
-        match Clause::of_literals(literals, self.search.atoms) {
-            Ok(clause) => self.accept(&clause),
-            Err(e) => Err(e),
-        }
+        self.search.check_opened()?;
+        let clause = Clause::of_literals(literals, self.search.atoms)?;
+        self.accept(&clause)
     }
 
     fn accept(&mut self, clause: &Clause) -> Result<u16, Refusal>
@@ -90,13 +83,9 @@ impl<'a, S: ClauseStore> Session<'a, S> {
         if let Some(k) = self.store.find(clause) {
             return Ok(k);
         }
-        match self.store.put(Entry::given(*clause)) {
-            Ok(k) => {
-                self.search.admit(clause);
-                Ok(k)
-            }
-            Err(e) => Err(e),
-        }
+        let k = self.store.put(Entry::given(*clause))?;
+        self.search.admit(clause);
+        Ok(k)
     }
 
     // The clauses of the text, accepted in order, or none of them: how many there are.
@@ -104,13 +93,9 @@ impl<'a, S: ClauseStore> Session<'a, S> {
         ensures named { self.new.store.ghost_name ≡ self.old.store.ghost_name }
         ensures made { after (S.held self.new.store.now) self.new.search (answer result) ≡ load (S.held self.old.store.now) self.old.search text.now }
     {
-        if let Phase::Unopened(e) = self.search.phase {
-            return Err(e);
-        }
-        match check(text, self.search.atoms) {
-            Ok(heading) => self.load_checked(text, heading.clauses),
-            Err(e) => Err(e),
-        }
+        self.search.check_opened()?;
+        let heading = check(text, self.search.atoms)?;
+        self.load_checked(text, heading.clauses)
     }
 
     // The same of a text that was found to have `count` clauses and no fault.
@@ -148,10 +133,8 @@ impl<'a, S: ClauseStore> Session<'a, S> {
         ensures named { self.new.store.ghost_name ≡ self.old.store.ghost_name }
         ensures made { after (S.held self.new.store.now) self.new.search (run_answer result) ≡ run (S.held self.old.store.now) self.old.search budget }
     {
-        if let Phase::Unopened(e) = self.search.phase {
-            return Err(e);
-        }
-        if budget > 2000000 {
+        self.search.check_opened()?;
+        if budget > 2_000_000 {
             return Err(Refusal::TooLarge);
         }
         self.steps(budget)

@@ -3,7 +3,7 @@ ghost use Rattle.std.specs.Prelude.{◌≡◌};
 use clause::words::Clause;
 
 // A clause and the numbers of its two antecedents, both 0 where it was given.
-#[derive(Clone, Copy, PartialEq, Eq)]
+#[derive(Clone, Copy, Debug, PartialEq, Eq)]
 pub struct Entry {
     pub clause: Clause,
     pub first: u16,

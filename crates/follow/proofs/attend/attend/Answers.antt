@@ -1,39 +1,29 @@
-use Rattle.std.proofs.Common.{◌≡◌, true, is_err, Some, refl, ap, ◌∙◌, arith, rules}
-use Rattle.std.proofs.lemmas.Result.{err_from_is_err_and, IfOk-from_err}
+use Rattle.std.proofs.Common.{◌≡◌, Some, ◌∙◌, rules}
+use Rattle.std.proofs.lemmas.List.{nil_from_length}
 use Rattle.script.specs.declared.request.Request.TheVariants.{Ask}
-use Rattle.follow.specs.Sessions.{opening}
-use Rattle.follow.proofs.Attending.{none_yet, no_more, stops, performs, passes, moved}
+use Rattle.follow.proofs.Attending.{no_more, stops, performs, passes}
 use Rattle.follow.proofs.attend.attend.Goals as goal
-use Rattle.follow.proofs.attend.attend.Goals.{in-Some-Ask+in_ok-items-in-Some-Ask, in-None+in_ok-not_understood-in-None}
 
-pub loop-i-init : goal.loop-i-init
-loop-i-init g c = (none_yet c.args.lines.now _ _ _ (omega arith), refl)
+pub returns-in-Some-Open-clause-next : goal.returns-in-Some-Open-clause-next
+returns-in-Some-Open-clause-next g c =
+    (stops _ _ _ _ _ _ _ c.loop-line.invariant.0 c.in-Some.line.now c.in-Some.after.now c.in-Some.ensures.cases.0 (search rules)).0
 
-pub returns-in-Some-Open : goal.returns-in-Some-Open
-returns-in-Some-Open g c =
-    let open-here : opening c.index-lines-i.result.request ≡ true = search rules in
-    let done = stops _ _ _ _ _ _ _ _ c.loop-i.invariant.0 c.index-lines-i.result c.loop-i-test.true c.index-lines-i.is open-here in
-    record { next = done.0; named = c.loop-i.invariant.1; calls = done.1 }
+pub returns-in-Some-Open-clause-calls : goal.returns-in-Some-Open-clause-calls
+returns-in-Some-Open-clause-calls g c =
+    (stops _ _ _ _ _ _ _ c.loop-line.invariant.0 c.in-Some.line.now c.in-Some.after.now c.in-Some.ensures.cases.0 (search rules)).1
 
-pub returns-in_err-items-in-Some-Ask : goal.returns-in_err-items-in-Some-Ask
-returns-in_err-items-in-Some-Ask g c =
-    let failed = ap is_err (err_from_is_err_and c.from_residual.result c.from_residual.ensures.1).1 in
-    record { next = IfOk-from_err _ _ failed; named = c.perform.ensures.named ∙ c.loop-i.invariant.1; calls = IfOk-from_err _ _ failed }
+pub loop-line-preserved-in_ok-items-in-Some-Ask : goal.loop-line-preserved-in_ok-items-in-Some-Ask
+loop-line-preserved-in_ok-items-in-Some-Ask g c =
+    let asked : c.in-Some.line.now.request ≡ Some (Ask c.in-Some-Ask.call) = search rules in (
+      performs _ _ _ _ _ _ _ c.loop-line.invariant.0 c.in-Some.line.now c.in-Some.after.now c.in-Some.ensures.cases.0 _ _ _ _ asked c.in_ok-items-in-Some-Ask.ensures.made,
+      c.perform.ensures.named ∙ c.loop-line.invariant.1,
+    )
 
-pub loop-i-preserved : goal.loop-i-preserved
-loop-i-preserved g c = elim c.match-line.branch [
-  | in-Some-Ask+in_ok-items-in-Some-Ask w ↦
-      let asked : c.index-lines-i.result.request ≡ Some (Ask w.in-Some-Ask.call) = search rules in
-      moved (λ z. g.S.ClauseStore.held z.store.now) (λ z. z.search) (λ z. z.store.ghost_name) _ _ _ _ _ w.perform.new.session c.match-line.session _ _ _ w.session-is w.items-is
-      (performs _ _ _ _ _ _ _ _ c.loop-i.invariant.0 c.index-lines-i.result c.loop-i-test.true c.index-lines-i.is _ _ _ _ asked w.in_ok-items-in-Some-Ask.ensures.made)
-      (w.perform.ensures.named ∙ c.loop-i.invariant.1)
-  | in-None+in_ok-not_understood-in-None w ↦
-      moved (λ z. g.S.ClauseStore.held z.store.now) (λ z. z.search) (λ z. z.store.ghost_name) _ _ _ _ _ c.loop-i.session c.match-line.session _ _ _ w.session-is w.items-is
-      (passes _ _ _ _ _ _ _ _ c.loop-i.invariant.0 c.index-lines-i.result c.loop-i-test.true c.index-lines-i.is w.in-None.is)
-      c.loop-i.invariant.1
-]
+pub loop-line-preserved : goal.loop-line-preserved
+loop-line-preserved g c = (
+  passes _ _ _ _ _ _ _ c.loop-line.invariant.0 c.in-Some.line.now c.in-Some.after.now c.in-Some.ensures.cases.0 c.in-None.is,
+  c.loop-line.invariant.1,
+)
 
-pub returns : goal.returns
-returns g c =
-    let done = no_more _ _ _ _ _ _ _ _ c.loop-i.invariant.0 c.loop-i-test.false in
-    record { next = done.0; named = c.loop-i.invariant.1; calls = done.1 }
+pub returns-clause-calls : goal.returns-clause-calls
+returns-clause-calls g c = (no_more _ _ _ _ _ _ _ c.loop-line.invariant.0 (nil_from_length _ c.in_default.ensures.cases)).1

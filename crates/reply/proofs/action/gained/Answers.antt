@@ -19,4 +19,4 @@ loop-atom-preserved c =
     ]
 
 pub returns : goal.returns
-returns c = none c.args.before c.args.after (c.loop-atom.atom - 1) (omega arith) ∙ sym c.loop-atom.invariant
+returns c = sym (none c.args.before c.args.after (c.loop-atom.atom - 1) (omega arith) ∙ sym c.loop-atom.invariant)

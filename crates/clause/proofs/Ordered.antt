@@ -1,13 +1,13 @@
 -- Literals gathered in order of atoms, from atom 1 on.
 use Rattle.std.proofs.Common.{◌≡◌, ℕ, zero, suc, ◌+◌, ◌-◌, ◌≤◌, List, [], ◌++◌, ℤ, sym, ap, ◌∙◌, append-nil, arith}
-use Rattle.render.specs.Texts.{in_order}
+use Rattle.clause.specs.Texts.{in_order}
 
 module _ (f : ℕ → List ℤ) where
   pub none_yet : (ls : List ℤ) → ls ≡ [] → ls ≡ in_order f (1 - 1)
   unfolding in_order
   none_yet ls e = e
 
-  step : (a : ℕ) → 1 ≤ a → in_order f (a - 1) ++ f a ≡ in_order f (a + 1 - 1)
+  pub step : (a : ℕ) → 1 ≤ a → in_order f (a - 1) ++ f a ≡ in_order f (a + 1 - 1)
   unfolding in_order
   step zero h = absurd (omega arith)
   step (suc k) h =
