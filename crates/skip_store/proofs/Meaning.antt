@@ -1,13 +1,12 @@
 -- What the answers of a sound list mean for the entries that it holds.
 use Rattle.std.proofs.Common.{◌≡◌, ℕ, zero, suc, ◌+◌, ◌-◌, ◌<◌, ◌≤◌, true, false, List, length, get_or, take, drop, set, Some, None, Ok, Err, Option, sym, ap, ◌∙◌, arith, MatchOption}
-use Rattle.std.proofs.lemmas.List.{drop-set-lt, get_or-take, length-take-le, take_more_set}
-use Rattle.std.proofs.lemmas.Option.{slice_get-get_or, slice_get_past}
+use Rattle.std.proofs.lemmas.List.{drop-set-lt, length-take-le, take_more_set}
 use Rattle.std.proofs.lemmas.Bool.{not-true, not-false, not_from_false}
 use Rattle.clause.specs.declared.words.Clause.{Clause}
 use Rattle.clause.specs.Clauses.{lits, makes, same}
 use Rattle.clause.specs.Refusals.{refused}
 use Rattle.store.specs.declared.entry.Entry.{Entry}
-use Rattle.store.specs.Held.{Held, clause_at, entry_at, blank, found, least_false, put_answer, after_put}
+use Rattle.store.specs.Held.{Held, clause_at, blank, found, least_false, put_answer, after_put}
 use Rattle.store.proofs.Finds.{find_none, find_from_lem}
 use Rattle.store.proofs.Leasts.{least_none, least_is}
 use Rattle.store.proofs.Puts.{put_found, put_full, put_new}
@@ -15,16 +14,6 @@ use Rattle.store.proofs.Sames.{same_rank, other_rank}
 use Rattle.skip_store.specs.Links.{held_of, spot_of, spot, Sound, Lacks, Holds, AllTrue, FirstFalse}
 use Rattle.skip_store.specs.Keeps.{clause_at_lem, spot_at}
 use Rattle.skip_store.proofs.Spots.{spot_head}
-
-pub entry_past : (es : List Entry) (n k : ℕ) → n ≤ length es → n < k → entry_at (take n es) k ≡ None
-entry_past es n zero w l = absurd (omega arith)
-entry_past es n (suc k) w l = slice_get_past (take n es) k (omega (arith, length-take-le n es w))
-
-pub entry_within : (es : List Entry) (n k : ℕ) → n ≤ length es → 0 < k → k ≤ n → entry_at (take n es) k ≡ Some (get_or es (k - 1) blank)
-entry_within es n zero w z l = absurd (omega arith)
-entry_within es n (suc k) w z l =
-    let e : k ≡ suc k - 1 = omega arith in
-    slice_get-get_or (take n es) k blank (omega (arith, length-take-le n es w)) ∙ ap Some (get_or-take n es k blank (omega arith)) ∙ ap (λ i. Some (get_or es i blank)) e
 
 module _ (es : List Entry) (head links : List ℕ) (n p : ℕ) (o : Sound es head links n p) where
   long : length (take n es) ≡ n

@@ -6,7 +6,7 @@ use Rattle.clause.specs.Clauses.{lits}
 use Rattle.clause.proofs.Ranks.{rank_bound}
 use Rattle.store.specs.declared.entry.Entry.{Entry}
 use Rattle.store.specs.Held.{blank}
-use Rattle.skip_store.specs.Links.{spot_of, spot, seat, link, On, Next, Sound}
+use Rattle.skip_store.specs.Links.{spot_of, spot, seat, link}
 
 pub link_head : (head links : List ℕ) (j l : ℕ) → j ≡ 0 → link head links j l ≡ get_or head l 0
 unfolding link
@@ -36,10 +36,6 @@ pub spot_most : (es : List Entry) (j : ℕ) → spot es j ≤ 4 ^ 64
 unfolding spot
 spot_most es zero = omega arith
 spot_most es (suc i) = rank_bound 64 (lits (get_or es i blank).clause)
-
--- a link that is read
-pub next_of : (es : List Entry) (head links : List ℕ) (n p l j k : ℕ) → Sound es head links n p → l < 15 → j ≤ n → On l j → k ≡ link head links j l → Next (spot es) n l j k
-next_of es head links n p l j k v b w o e = rw e (v.linked l b j w o)
 
 -- the predecessors on one level more
 pub preds_more : (P : ℕ → ℕ → Type 0) (xs : List ℕ) (v x : ℕ) → 0 < v → v ≤ 15 → length xs ≡ 15 → P (v - 1) x

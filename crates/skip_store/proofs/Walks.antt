@@ -1,13 +1,14 @@
 -- What a walk along links finds.
-use Rattle.std.proofs.Common.{◌≡◌, ℕ, suc, ◌-◌, ◌<◌, ◌≤◌, true, false, ltb, ◌≢◌, List, get_or, Ordering, Less, Equal, Greater, sym, refl, ap, ◌∙◌, subst, ⊎_elim, arith}
-use Rattle.std.proofs.lemmas.Bool.{cases_lt, both_ways, ltb-false}
+use Rattle.std.proofs.Common.{◌≡◌, ℕ, suc, ◌-◌, ◌<◌, ◌≤◌, true, false, ◌≢◌, List, get_or, Ordering, Less, Equal, Greater, is_eq, MatchOption, sym, ap, ◌∙◌, subst, ⊎_elim, arith, rules}
+use Rattle.std.specs.Bool.{Decides, then_some}
+use Rattle.std.proofs.lemmas.Bool.{cases_lt, both_ways}
 use Rattle.clause.specs.declared.words.Clause.{Clause}
-use Rattle.clause.specs.Clauses.{lits}
-use Rattle.clause.specs.Order.{rank, Compares}
+use Rattle.clause.specs.Clauses.{lits, same}
+use Rattle.std.specs.Cmp.Rules.{comparing}
+use Rattle.clause.specs.Order.{rank, Compares, clause_cmp}
 use Rattle.store.specs.declared.entry.Entry.{Entry}
 use Rattle.store.specs.Held.{blank}
-use Rattle.store.proofs.Sames.{rank_same}
-use Rattle.skip_store.specs.Links.{Words, spot_of, spot, Next, Prev, Apart, Lacks, Holds, fails, AllTrue, FirstFalse}
+use Rattle.skip_store.specs.Links.{spot_of, spot, Next, Prev, Apart, Lacks, Holds, fails, AllTrue, FirstFalse}
 use Rattle.skip_store.proofs.Levels.{on_lowest}
 use Rattle.skip_store.proofs.Spots.{spot_entry, spot_head}
 
@@ -32,12 +33,6 @@ lacks es n t prev k z p x f m q e =
     let a = x.after l.0 in
     let g = p.last k l.0 x.within (on_lowest k) in
     f l.0 (grind arith)
-
--- an entry that stands where c does has the clause c
-pub holds : (es : List Entry) (n k : ℕ) (c : Clause) → 0 < k → k ≤ n → Words (get_or es (k - 1) blank).clause → Words c → spot es k ≡ spot_of c → Holds es n c k
-holds es n k c p q f g e =
-    let s = spot_entry es k p in
-    record { some = p; within = q; is = rank_same (get_or es (k - 1) blank).clause c f g (omega arith) }
 
 -- ---- along the lowest level, from one entry to the next, k
 
@@ -73,12 +68,16 @@ module _ (es : List Entry) (n from v last k : ℕ) (apart : Apart (spot es) n) (
             (cases_lt (spot es last) (spot es m)),
       )
 
--- ---- what a comparison did not say
+-- ---- what a comparison says
 
-pub not_before : (m n : ℕ) → false ≡ ltb m n → n ≤ m
-not_before m n e = ltb-false m n (sym e)
+-- clauses that compare as equal are the same
+decides : (c d : Clause) → Decides (same c d) (clause_cmp c d ≡ Equal)
+decides = search (comparing, rules)
 
-pub not_equal : (m n : ℕ) (o : Ordering) → Compares m n o → (o ≡ Equal → ⊥) → m ≡ n → ⊥
-not_equal m n Less h f e = omega arith
-not_equal m n Equal h f e = f refl
-not_equal m n Greater h f e = omega arith
+-- the entry k after the last one before c has c where the two compare as equal, and else no entry has
+pub held_or_not : (es : List Entry) (n prev k : ℕ) (c : Clause) (o : Ordering) → Prev (spot es) n 0 (spot_of c) prev → (0 < k) × Next (spot es) n 0 prev k
+    → o ≡ clause_cmp (get_or es (k - 1) blank).clause c → Compares (spot es k) (spot_of c) o
+    → MatchOption (then_some (is_eq o) k) (Lacks es n (spot_of c)) (λ j. Holds es n c j)
+held_or_not es n prev k c Less p x f h = lacks es n (spot_of c) prev k (omega arith) p x.1 (λ _ e. omega arith)
+held_or_not es n prev k c Equal p x f h = record { some = x.0; within = x.1.within; is = (decides (get_or es (k - 1) blank).clause c).1 (sym f) }
+held_or_not es n prev k c Greater p x f h = lacks es n (spot_of c) prev k (omega arith) p x.1 (λ _ e. omega arith)

@@ -1,3 +1,4 @@
 pub mod Links
 pub mod Keeps
+pub mod Props
 pub mod Lists

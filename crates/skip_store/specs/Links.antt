@@ -11,10 +11,6 @@ use Rattle.store.specs.Held.{Held, blank}
 abbrev pub Vacant : Entry → Type 0
 Vacant e = (lits e.clause ≡ lits clear) × (e.first ≡ 0) × (e.second ≡ 0)
 
--- the words of c are words of 64 atoms
-abbrev pub Words : Clause → Type 0
-Words c = (c.positive < 2 ^ 64) × (c.negative < 2 ^ 64)
-
 -- what the store stands for: the first n records, and p places
 abbrev pub held_of : List Entry → ℕ → ℕ → Held
 held_of es n p = record { entries = take n es; places = p }

@@ -1,6 +1,6 @@
 // Clauses by arrival in the caller's memory, linked in clause order by a skip list.
 #![tactic(auto)]
 
-pub mod links;
-pub mod list;
+mod links;
+mod list;
 pub mod skips;

@@ -2,22 +2,15 @@ use Rattle.std.proofs.Common.{◌≡◌, ◌+◌, ◌-◌, refl, ◌∙◌, subs
 use Rattle.skip_store.specs.Links.{spot, spot_of, On, Prev}
 use Rattle.skip_store.proofs.Levels.{on_head, on_lower}
 use Rattle.skip_store.proofs.Spots.{spot_head, preds_more}
-use Rattle.skip_store.proofs.list.SkipList.all_before.Goals as goal
+use Rattle.skip_store.proofs.skips.SkipStore.all_before.Goals as goal
 
 pub loop-level-init : goal.loop-level-init
 loop-level-init c = (omega arith, on_head 15, omega (arith, spot_head c.args.self.now.records.now), refl, λ m a b. absurd (omega arith))
 
-pub last_before-last-requires : goal.last_before-last-requires
-last_before-last-requires c =
-    let i = c.loop-level.invariant in
+pub last_before-last-requires-clause-on : goal.last_before-last-requires-clause-on
+last_before-last-requires-clause-on c =
     let e : c.loop-level.level ≡ c.loop-level.level - 1 + 1 = omega arith in
-    record {
-      sound = c.requires;
-      level = omega arith;
-      start = i.0;
-      on = on_lower (c.loop-level.level - 1) c.loop-level.last (subst (λ x. On x c.loop-level.last) e i.1);
-      before = i.2;
-    }
+    on_lower (c.loop-level.level - 1) c.loop-level.last (subst (λ x. On x c.loop-level.last) e c.loop-level.invariant.1)
 
 pub loop-level-preserved : goal.loop-level-preserved
 loop-level-preserved c =

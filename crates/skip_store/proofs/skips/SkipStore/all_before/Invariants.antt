@@ -1,6 +1,6 @@
 use Rattle.std.proofs.Common.{◌≡◌, ℕ, ◌<◌, ◌≤◌, length, get_or}
 use Rattle.skip_store.specs.Links.{spot, spot_of, On, Prev}
-use Rattle.skip_store.proofs.list.SkipList.all_before.Given as goal
+use Rattle.skip_store.proofs.skips.SkipStore.all_before.Given as goal
 
 -- The predecessors on the levels passed are found.
 abbrev pub invariant-loop-level : goal.invariant-loop-level
