@@ -1,17 +1,18 @@
 // Clauses numbered in clause order, for tests and measurements of the stores.
 #![tactic(auto)]
 
-ghost use Rattle.std.specs.Prelude.{◌≡◌, ◌^◌, ◌<◌, ◌≤◌};
+ghost use Rattle.std.specs.Prelude.{◌≡◌, ◌+◌, ◌*◌, ◌^◌, ◌<◌, ◌≤◌, IfOk, vec_len};
 ghost use Rattle.clause.specs.Clauses.{lits};
-ghost use Rattle.nth_clause.specs.Digits.{unit, word, nth, InOrder};
+ghost use Rattle.nth_clause.specs.Digits.{unit, word, nth, InOrder, AtPlaces};
 
 use clause::words::Clause;
+use std::alloc::{AllocError, Global};
 
 // 1 where the lowest digit of k is `digit`, else 0.
 fn unit(k: u32, digit: u32) -> u64
     ensures { result ≡ unit digit k }
 {
-    if k % 3 == digit { 1 } else { 0 }
+    u64::from(k % 3 == digit)
 }
 
 // The word of the atoms, of the first `atoms`, whose digit in k is `digit`.
@@ -33,8 +34,39 @@ pub fn nth(k: u32) -> Clause
 {
     let positive = word(k, 1, 21);
     let negative = word(k, 2, 21);
-    match Clause::of_words(positive, negative) {
-        Some(clause) => clause,
-        None => Clause::empty(),
+    Clause::of_words(positive, negative).unwrap()
+}
+
+// The clause at place j, from 0, of every fifth in clause order, from number FIRST on.
+pub fn fifth<const FIRST: u32>(j: u16) -> Clause
+    requires { FIRST + 5 * 65535 < 2 ^ 32 }
+    ensures { lits result ≡ nth (FIRST + 5 * j) }
+{
+    nth(FIRST + 5 * j as u32)
+}
+
+// The clauses at the first `count` of those places, in clause order.
+pub fn fifths<const FIRST: u32>(heap: Global, count: u16) -> Result<Vec<Clause>, AllocError>
+    requires { FIRST + 5 * 65535 < 2 ^ 32 }
+    ensures { IfOk result (λ v. (vec_len v ≡ count) × AtPlaces FIRST v.items count) }
+{
+    (0..count).map(fifth::<FIRST>).collect(heap)
+}
+
+#[cfg(test)]
+mod tests {
+    use super::*;
+
+    // 59,049 is 3^10, and 5 and 10 are written 12 and 101 in base 3: the clauses are {11}, {-1, 2, 11} and {1, 3, 11}.
+    #[test]
+    fn lists_every_fifth(rt: HostRuntime) -> Result<(), AllocError> {
+        let clauses = fifths::<59049>(rt.alloc(), 3)?;
+        let words = [(0x400, 0), (0x402, 1), (0x405, 0)];
+        assert_eq!(rt; clauses.len(), words.len());
+        for (clause, (positive, negative)) in clauses.iter().zip(words) {
+            assert_eq!(rt; clause.positive(), positive);
+            assert_eq!(rt; clause.negative(), negative);
+        }
+        Ok(())
     }
 }
