@@ -15,6 +15,10 @@ use Rattle.store_table.specs.declared.request.Answer.TheVariants.{Count, Number,
 abbrev pub clause_in : Words → Option Clause
 clause_in w = clause_of (record { pos = w.positive; neg = w.negative })
 
+-- the words of a clause
+abbrev pub words_of : Clause → Words
+words_of c = record { positive = c.positive; negative = c.negative }
+
 -- a number, or nothing
 abbrev pub number_answer : Option ℕ → Answer
 number_answer (Some k) = Number k
@@ -22,7 +26,7 @@ number_answer None = Nothing
 
 -- an entry, or nothing
 abbrev pub entry_answer : Option Entry → Answer
-entry_answer (Some e) = Holds (record { positive = e.clause.positive; negative = e.clause.negative }) e.first e.second
+entry_answer (Some e) = Holds (words_of e.clause) e.first e.second
 entry_answer None = Nothing
 
 -- the number of a clause that was put, or why it was refused

@@ -62,6 +62,7 @@ fn lent_for(places: u16) -> Lent
     }
 }
 
+// kept: `over_row` and `over_skip` stay two, since a store borrows memory of its own kind, and one function over both would take a trait that makes the memory and lends the store
 fn over_row(rt: &HostRuntime, table: &str, lent: &Lent, rows: &[Row]) -> io::Result<usize>
     ensures { IfOk result (λ n. n ≤ length rows.now) }
 {
