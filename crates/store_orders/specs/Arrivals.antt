@@ -1,20 +1,17 @@
 -- Which clauses are put, in which order they arrive, and what both stores are then known to answer.
-use Rattle.std.specs.Prelude.{◌≡◌, ℕ, zero, suc, ◌+◌, ◌-◌, ◌*◌, ◌/◌, ◌%◌, ◌^◌, ◌<◌, ◌≤◌, min, Bool, true, false, cond, not, ◌&&◌, List, [], ◌∷◌, length, Some, None, Ok, Err, Option, Result, ◌==◌, bit_xor, slice_index, slice_index_or}
-use Rattle.clause.specs.declared.words.Clause.{Clause}
-use Rattle.clause.specs.Clauses.{lits, makes, same}
+use Rattle.std.specs.Prelude.{◌≡◌, ℕ, ◌+◌, ◌-◌, ◌*◌, ◌/◌, ◌%◌, ◌^◌, ◌<◌, ◌≤◌, min, Bool, false, cond, not, ◌&&◌, List, length, Some, None, Ok, Err, Option, Result, is_some, ◌==◌, bit_xor, slice_index}
+use Rattle.std.specs.List.{find, slice_get}
+use Rattle.clause.specs.Clauses.{lits, makes}
 use Rattle.clause.specs.Refusals.{Told}
 use Rattle.store.specs.declared.entry.Entry.{Entry}
 use Rattle.nth_clause.specs.Digits.{nth}
 use Rattle.store_orders.specs.declared.arrivals.Order.{Order}
 use Rattle.store_orders.specs.declared.arrivals.Order.TheVariants.{Ascending, Descending, Alternating, Random}
+use Rattle.store_orders.specs.declared.looks.Placed.{Placed}
 
 -- the number among all clauses of the clause that stands at place j, from 0, among those that are put
 abbrev pub number_at : ℕ → ℕ
 number_at j = 59049 + 5 * j
-
--- the clauses of cs stand at their places, from 0 to n - 1
-abbrev pub AtPlaces : List Clause → ℕ → Type 0
-AtPlaces cs n = (j : ℕ) (d : Clause) → j < n → lits (slice_index_or cs j d) ≡ nth (number_at j)
 
 -- the last place
 abbrev pub last : ℕ
@@ -38,10 +35,14 @@ mixed_up k x = bit_xor x (x * 2 ^ k % 2 ^ 64)
 abbrev pub mixed_down : ℕ → ℕ → ℕ
 mixed_down k x = bit_xor x (x / 2 ^ k)
 
--- the number of a place, 0 standing for none
-abbrev pub known_number : ℕ → Option ℕ
-known_number zero = None
-known_number (suc n) = Some (suc n)
+-- the number of a clause, nothing where there is none
+abbrev pub number_of : Option Placed → Option ℕ
+number_of None = None
+number_of (Some p) = p.number
+
+-- the number of the clause at place j
+abbrev pub known_number : List Placed → ℕ → Option ℕ
+known_number ps j = number_of (slice_get ps j)
 
 -- entry k is the clause at its place, with its number and its place for antecedents
 pub record IsEntry (places : List ℕ) (k : ℕ) (e : Entry) : Type 0 where
@@ -53,24 +54,13 @@ pub record IsEntry (places : List ℕ) (k : ℕ) (e : Entry) : Type 0 where
 abbrev pub NoEntry : List ℕ → ℕ → ℕ → Type 0
 NoEntry places n k = 0 < k → k ≤ n → k ≤ length places → ⊥
 
--- a clause with the number n was put and is false
-abbrev pub counts : ℕ → Clause → ℕ → Bool
-counts v c n = not (n == 0) && not (makes v (lits c))
+-- the clause of p was put and is false
+abbrev pub counts : ℕ → Placed → Bool
+counts v p = is_some p.number && not (makes v (lits p.clause))
 
 -- the number of the first clause in clause order that was put and is false
-unfoldable pub first_known : ℕ → List Clause → List ℕ → Option ℕ
-first_known v [] ns = None
-first_known v (c ∷ cs) [] = None
-first_known v (c ∷ cs) (n ∷ ns) = cond (counts v c n) (Some n) (first_known v cs ns)
-
-abbrev pub same_entry : Entry → Entry → Bool
-same_entry a b = same a.clause b.clause && (a.first == b.first && a.second == b.second)
-
-abbrev pub same_entries : Option Entry → Option Entry → Bool
-same_entries None None = true
-same_entries None (Some b) = false
-same_entries (Some a) None = false
-same_entries (Some a) (Some b) = same_entry a b
+abbrev pub first_known : ℕ → List Placed → Option ℕ
+first_known v ps = number_of (find (counts v) ps)
 
 -- a put answers the number, or refusal 10 for none
 abbrev pub is_due : Result ℕ Told → Option ℕ → Bool

@@ -1,10 +1,6 @@
-ghost use Rattle.std.specs.Prelude.{◌≡◌, ◌+◌, ◌≤◌, IfOk, vec_len};
-ghost use Rattle.clause.specs.Clauses.{lits};
-ghost use Rattle.nth_clause.specs.Digits.{nth};
-ghost use Rattle.store_orders.specs.Arrivals.{number_at, AtPlaces, last, inwards, place_of, mixed_up, mixed_down};
+ghost use Rattle.std.specs.Prelude.{◌≡◌, ◌≤◌, IfOk, vec_len};
+ghost use Rattle.store_orders.specs.Arrivals.{last, inwards, place_of, mixed_up, mixed_down};
 
-use clause::words::Clause;
-use nth_clause::nth;
 use std::alloc::{AllocError, Global};
 
 // How many clauses are put: as many as a store has places at most.
@@ -20,31 +16,12 @@ pub enum Order {
     Random,
 }
 
-// The clause at place j of those that are put, in clause order: every fifth clause from number 59,049 on, which is {11}.
-// So the clauses have 11 atoms; atom 11 is positive below place 11,810 and negative from there on.
-pub fn put_clause(j: u16) -> Clause
-    ensures { lits result ≡ nth (number_at j) }
-{
-    nth(59049 + 5 * j as u32)
-}
+// The clauses that are put are every fifth in clause order from this number on, which is {11}: they have 11 atoms, and atom 11 is positive
+// below place 11,810 and negative from there on.
+pub const PUT: u32 = 59049;
 
-// The clause after it, which is never put.
-pub fn other_clause(j: u16) -> Clause
-    ensures { lits result ≡ nth (number_at j + 1) }
-{
-    nth(59050 + 5 * j as u32)
-}
-
-// The clauses that are put, in clause order.
-pub fn all_clauses(heap: Global) -> Result<Vec<Clause>, AllocError>
-    ensures { IfOk result (λ v. (vec_len v ≡ 16384) × AtPlaces v.items 16384) }
-{
-    let mut clauses = Vec::new(heap);
-    for j in 0..COUNT {
-        clauses.push(put_clause(j))?;
-    }
-    Ok(clauses)
-}
+// The clauses after them are never put.
+pub const OTHER: u32 = 59050;
 
 // The place of the i-th to arrive, from 0, from the two ends inwards.
 fn alternating(i: u16) -> u16
@@ -81,6 +58,7 @@ fn xorshift(before: u64) -> u64
 // Shuffles the places: each is exchanged with one at or before it.
 fn shuffle(places: &mut [u16]) {
     let mut random = 88172645463325252;
+    // kept: `swap` takes two indices
     for i in 0..places.len() {
         random = xorshift(random);
         let other = (random % (i as u64 + 1)) as usize;
@@ -92,10 +70,7 @@ fn shuffle(places: &mut [u16]) {
 pub fn arrivals(heap: Global, order: Order) -> Result<Vec<u16>, AllocError>
     ensures { IfOk result (λ v. vec_len v ≡ 16384) }
 {
-    let mut places = Vec::new(heap);
-    for i in 0..COUNT {
-        places.push(arrives(order, i))?;
-    }
+    let mut places: Vec<u16> = (0..COUNT).map(|i| arrives(order, i)).collect(heap)?;
     if let Order::Random = order {
         shuffle(&mut places);
     }
