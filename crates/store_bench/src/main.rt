@@ -7,51 +7,27 @@ mod plain;
 mod task;
 
 ghost use Rattle.std.specs.Prelude.{◌≡◌, ◌+◌, ◌-◌, ◌*◌, ◌/◌, ◌%◌, ◌^◌, if◌then◌else◌, bit_and, nat_eq};
-ghost use Rattle.clause.specs.Clauses.{lits};
-ghost use Rattle.nth_clause.specs.Digits.{nth};
 
 use clause::words::Clause;
-use measured::Measured;
-use nth_clause::nth;
+use measured::{Measured, Stored};
+use nth_clause::fifths;
 use plain::Plain;
 use row_store::ordered::RowStore;
 use row_store::slot::Slot;
 use skip_store::skips::{SkipStore, blank, links_for};
-use std::alloc::{AllocError, Global};
 use std::io;
 use std::io::{BufRead, BufReader};
 use std::time::Instant;
 use store::entry::Entry;
-use task::{Arrival, Subject, Task, Work, read_task};
+use task::{Arrival, NotUnderstood, Subject, Task, Work};
 
 const COUNT: u16 = 16384;
 
-// The clause at place j, in clause order: every fifth from number 265,720 on, which has atoms 1 to 12, all positive. All these clauses have atom 12, positive.
-fn place_clause(j: u16) -> Clause
-    ensures { lits result ≡ nth (265720 + 5 * j) }
-{
-    nth(265720 + 5 * j as u32)
-}
+// The clauses are every fifth in clause order from this number on, which has atoms 1 to 12, all positive. All these clauses have atom 12, positive.
+const PUT: u32 = 265720;
 
-// The clause after it, which is never put.
-fn other_clause(j: u16) -> Clause
-    ensures { lits result ≡ nth (265721 + 5 * j) }
-{
-    nth(265721 + 5 * j as u32)
-}
-
-// The clauses at the places, or those after them.
-fn all_clauses(heap: Global, others: bool) -> Result<Vec<Clause>, AllocError> {
-    let mut clauses = Vec::new(heap);
-    for j in 0..COUNT {
-        clauses.push(if others {
-            other_clause(j)
-        } else {
-            place_clause(j)
-        })?;
-    }
-    Ok(clauses)
-}
+// The clauses after them are never put.
+const OTHER: u32 = 265721;
 
 // The steps in which clauses are put and asked for.
 const PUT_STEP: u32 = 9973;
@@ -66,6 +42,7 @@ fn scattered(range: u32, step: u32, i: u32) -> u32
 }
 
 // The i-th place from the two ends of the first `range` inwards.
+// kept apart from that of `store_orders`: here a line gives any range of 32 bits, there all numbers have 16, and casts would be no plainer
 fn alternating(range: u32, i: u32) -> u32
     ensures { result ≡ (if nat_eq (i % 2) 0 then i / 2 else range - 1 - i / 2) }
 {
@@ -77,10 +54,15 @@ fn alternating(range: u32, i: u32) -> u32
 }
 
 fn clause_at(clauses: &[Clause], place: u32) -> Clause {
-    match clauses.get(place as usize) {
-        Some(clause) => *clause,
-        None => Clause::empty(),
-    }
+    clauses
+        .get(place as usize)
+        .copied()
+        .unwrap_or(Clause::empty())
+}
+
+// The i-th clause to be asked for.
+fn asked(clauses: &[Clause], task: &Task, i: u32) -> Clause {
+    clause_at(clauses, scattered(task.range, ASK_STEP, i))
 }
 
 // The i-th entry to arrive.
@@ -98,34 +80,28 @@ fn valuation(i: u32, twelfth: bool) -> u64 {
     if twelfth { low | 2048 } else { low }
 }
 
-fn build<M: Measured>(store: &mut M, clauses: &[Clause], task: &Task) -> u64 {
+// Does something so many times, and answers the sum of the answers.
+fn repeat<F: FnMut(u32) -> u64>(times: u32, mut once: F) -> u64
+    requires { F.IsAlwaysCallable once }
+{
     let mut sum = 0u64;
-    for i in 0..task.built {
-        sum = sum.wrapping_add(store.fill(arriving(clauses, task, i)));
+    for i in 0..times {
+        sum = sum.wrapping_add(once(i));
     }
     sum
-}
-
-// The work for the i-th time.
-fn once<M: Measured>(store: &mut M, clauses: &[Clause], task: &Task, i: u32) -> u64 {
-    match task.work {
-        Work::Find | Work::Miss => store.look(&clause_at(
-            clauses,
-            scattered(task.range, ASK_STEP, i),
-        )),
-        Work::Put => store.add(arriving(clauses, task, task.built.wrapping_add(i))),
-        Work::Least => store.least(valuation(i, false)),
-        Work::Never => store.least(valuation(i, true)),
-    }
 }
 
 // Does the work, and answers the sum of the answers.
-fn repeat<M: Measured>(store: &mut M, clauses: &[Clause], task: &Task) -> u64 {
-    let mut sum = 0u64;
-    for i in 0..task.times {
-        sum = sum.wrapping_add(once(store, clauses, task, i));
+fn work<M: Measured>(store: &mut M, held: &[Clause], others: &[Clause], task: &Task) -> u64 {
+    match task.work {
+        Work::Find => repeat(task.times, |i| store.look(&asked(held, task, i))),
+        Work::Miss => repeat(task.times, |i| store.look(&asked(others, task, i))),
+        Work::Put => repeat(task.times, |i| {
+            store.add(arriving(held, task, task.built.wrapping_add(i)))
+        }),
+        Work::Least => repeat(task.times, |i| store.least(valuation(i, false))),
+        Work::Never => repeat(task.times, |i| store.least(valuation(i, true))),
     }
-    sum
 }
 
 fn measure<M: Measured>(
@@ -135,15 +111,11 @@ fn measure<M: Measured>(
     task: &Task,
 ) -> io::Result<()> {
     let heap = rt.alloc();
-    let held = all_clauses(heap, false)?;
-    let others = all_clauses(heap, true)?;
-    let built = build(store, &held, task);
-    let asked = match task.work {
-        Work::Miss => &others,
-        _ => &held,
-    };
+    let held = fifths::<PUT>(heap, COUNT)?;
+    let others = fifths::<OTHER>(heap, COUNT)?;
+    let built = repeat(task.built, |i| store.fill(arriving(&held, task, i)));
     let start = Instant::now(rt)?;
-    let sum = repeat(store, asked, task);
+    let sum = work(store, &held, &others, task);
     let nanos = start.elapsed(rt)?.as_nanos();
     println!(rt; "{line}: {nanos} ns, sums {built} {sum}")
 }
@@ -154,13 +126,13 @@ fn perform(rt: &HostRuntime, line: &str, task: &Task) -> io::Result<()> {
         Subject::Row => {
             let mut slots = vec![in heap; Slot::blank(); COUNT as usize]?;
             let mut seats = vec![in heap; 0u16; COUNT as usize]?;
-            let mut store = RowStore::new(&mut slots, &mut seats);
+            let mut store = Stored(RowStore::new(&mut slots, &mut seats));
             measure(rt, line, &mut store, task)
         }
         Subject::Skip => {
             let mut records = vec![in heap; blank(); COUNT as usize]?;
             let mut links = vec![in heap; 0u16; links_for(COUNT)]?;
-            let mut store = SkipStore::new(&mut records, &mut links);
+            let mut store = Stored(SkipStore::new(&mut records, &mut links));
             measure(rt, line, &mut store, task)
         }
         Subject::Plain => {
@@ -173,9 +145,9 @@ fn perform(rt: &HostRuntime, line: &str, task: &Task) -> io::Result<()> {
 fn main(rt: HostRuntime) -> io::Result<()> {
     for line in BufReader::new(rt.alloc(), rt.stdin())?.lines(rt.alloc()) {
         let line = line?;
-        match read_task(line.as_str()) {
-            Some(task) => perform(&rt, line.as_str(), &task)?,
-            None => println!(rt; "not understood: {line}")?,
+        match line.as_str().parse::<Task>() {
+            Ok(task) => perform(&rt, line.as_str(), &task)?,
+            Err(NotUnderstood) => println!(rt; "not understood: {line}")?,
         }
     }
     Ok(())

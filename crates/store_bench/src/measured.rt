@@ -2,8 +2,6 @@ ghost use Rattle.std.specs.Prelude.{◌≡◌, ◌+◌, ◌-◌, ◌^◌, min, M
 
 use crate::plain::Plain;
 use clause::words::Clause;
-use row_store::ordered::RowStore;
-use skip_store::skips::SkipStore;
 use store::entry::Entry;
 use store::store::ClauseStore;
 
@@ -23,62 +21,35 @@ pub trait Measured {
 fn number(answer: Option<u16>) -> u64
     ensures { MatchOption answer (result ≡ 0) (λ k. result ≡ k) }
 {
-    match answer {
-        Some(k) => k as u64,
-        None => 0,
-    }
+    answer.map_or(0, u64::from)
 }
 
 // The number of an index, which counts from 0, and 0 for none.
 fn index(answer: Option<usize>) -> u64
     ensures { MatchOption answer (result ≡ 0) (λ i. result ≡ min (i + 1) (2 ^ 64 - 1)) }
 {
-    match answer {
-        Some(i) => (i as u64).saturating_add(1),
-        None => 0,
-    }
+    answer.map_or(0, |i| (i as u64).saturating_add(1))
 }
 
-fn put<S: ClauseStore>(store: &mut S, entry: Entry) -> u64 {
-    match store.put(entry) {
-        Ok(k) => k as u64,
-        Err(_) => 0,
-    }
-}
+// A clause store that is measured.
+#[derive(Drop)]
+pub struct Stored<S>(pub S);
 
-impl Measured for RowStore<'_> {
+impl<S: ClauseStore> Measured for Stored<S> {
     fn fill(&mut self, entry: Entry) -> u64 {
-        put(self, entry)
+        self.add(entry)
     }
 
     fn look(&self, clause: &Clause) -> u64 {
-        number(self.find(clause))
+        number(self.0.find(clause))
     }
 
     fn add(&mut self, entry: Entry) -> u64 {
-        put(self, entry)
+        number(self.0.put(entry).ok())
     }
 
     fn least(&self, valuation: u64) -> u64 {
-        number(self.least_false(valuation))
-    }
-}
-
-impl Measured for SkipStore<'_> {
-    fn fill(&mut self, entry: Entry) -> u64 {
-        put(self, entry)
-    }
-
-    fn look(&self, clause: &Clause) -> u64 {
-        number(self.find(clause))
-    }
-
-    fn add(&mut self, entry: Entry) -> u64 {
-        put(self, entry)
-    }
-
-    fn least(&self, valuation: u64) -> u64 {
-        number(self.least_false(valuation))
+        number(self.0.least_false(valuation))
     }
 }
 

@@ -1,7 +1,6 @@
 // The baseline: entries by arrival in an array, and every question a scan over it.
 use clause::words::Clause;
 use std::alloc::Global;
-use std::cmp::Ordering;
 use store::entry::Entry;
 
 #[derive(Drop)]
@@ -18,21 +17,15 @@ impl Plain {
 
     // The index of the clause.
     pub fn find(&self, clause: &Clause) -> Option<usize> {
-        for (i, entry) in self.entries.iter().enumerate() {
-            if entry.clause == *clause {
-                return Some(i);
-            }
-        }
-        None
+        self.entries
+            .iter()
+            .position(|entry| entry.clause == *clause)
     }
 
     // Adds an entry without looking whether it is held; its index.
     pub fn push(&mut self, entry: Entry) -> Option<usize> {
         let size = self.entries.len();
-        match self.entries.push(entry) {
-            Ok(()) => Some(size),
-            Err(_) => None,
-        }
+        self.entries.push(entry).is_ok().then_some(size)
     }
 
     // The index of the entry's clause, which is added unless it is held.
@@ -45,22 +38,11 @@ impl Plain {
 
     // The index of the first clause in clause order that is false.
     pub fn least_false(&self, valuation: u64) -> Option<usize> {
-        let mut least = None;
-        let mut first = Clause::empty();
-        for (i, entry) in self.entries.iter().enumerate() {
-            let clause = entry.clause;
-            if !clause.is_true(valuation) && (least.is_none() || is_before(&clause, &first)) {
-                least = Some(i);
-                first = clause;
-            }
-        }
-        least
-    }
-}
-
-fn is_before(clause: &Clause, other: &Clause) -> bool {
-    match clause.cmp(other) {
-        Ordering::Less => true,
-        _ => false,
+        self.entries
+            .iter()
+            .enumerate()
+            .filter(|(_, entry)| !entry.clause.is_true(valuation))
+            .min_by_key(|(_, entry)| entry.clause)
+            .map(|(i, _)| i)
     }
 }

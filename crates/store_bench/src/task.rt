@@ -1,4 +1,5 @@
 // What to measure, from a line of input: STORE WORK ARRIVAL RANGE BUILT TIMES, as `row find scattered 1024 1024 512`.
+use std::str::{FromStr, SplitWhitespace};
 
 #[derive(Clone, Copy)]
 pub enum Subject {
@@ -37,55 +38,71 @@ pub struct Task {
     pub times: u32,
 }
 
-fn read_subject(word: &str) -> Option<Subject> {
-    match word {
-        "row" => Some(Subject::Row),
-        "skip" => Some(Subject::Skip),
-        "plain" => Some(Subject::Plain),
-        _ => None,
+// A word that is none of those that stand at its place.
+#[derive(Clone, Copy)]
+pub struct NotUnderstood;
+
+impl FromStr for Subject {
+    type Err = NotUnderstood;
+
+    fn from_str(word: &str) -> Result<Subject, NotUnderstood> {
+        match word {
+            "row" => Ok(Subject::Row),
+            "skip" => Ok(Subject::Skip),
+            "plain" => Ok(Subject::Plain),
+            _ => Err(NotUnderstood),
+        }
     }
 }
 
-fn read_work(word: &str) -> Option<Work> {
-    match word {
-        "find" => Some(Work::Find),
-        "miss" => Some(Work::Miss),
-        "put" => Some(Work::Put),
-        "least" => Some(Work::Least),
-        "never" => Some(Work::Never),
-        _ => None,
+impl FromStr for Work {
+    type Err = NotUnderstood;
+
+    fn from_str(word: &str) -> Result<Work, NotUnderstood> {
+        match word {
+            "find" => Ok(Work::Find),
+            "miss" => Ok(Work::Miss),
+            "put" => Ok(Work::Put),
+            "least" => Ok(Work::Least),
+            "never" => Ok(Work::Never),
+            _ => Err(NotUnderstood),
+        }
     }
 }
 
-fn read_arrival(word: &str) -> Option<Arrival> {
-    match word {
-        "scattered" => Some(Arrival::Scattered),
-        "alternating" => Some(Arrival::Alternating),
-        _ => None,
+impl FromStr for Arrival {
+    type Err = NotUnderstood;
+
+    fn from_str(word: &str) -> Result<Arrival, NotUnderstood> {
+        match word {
+            "scattered" => Ok(Arrival::Scattered),
+            "alternating" => Ok(Arrival::Alternating),
+            _ => Err(NotUnderstood),
+        }
     }
 }
 
-fn read_count(word: Option<&str>) -> Option<u32> {
-    match word?.parse::<u32>() {
-        Ok(n) => Some(n),
-        Err(_) => None,
-    }
+// The next word, read.
+fn next<T: FromStr>(words: &mut SplitWhitespace) -> Result<T, NotUnderstood>
+where
+    T::Err: Drop,
+{
+    let word = words.next().ok_or(NotUnderstood)?;
+    word.parse::<T>().ok().ok_or(NotUnderstood)
 }
 
-pub fn read_task(line: &str) -> Option<Task> {
-    let mut words = line.split_whitespace();
-    let subject = read_subject(words.next()?)?;
-    let work = read_work(words.next()?)?;
-    let arrival = read_arrival(words.next()?)?;
-    let range = read_count(words.next())?;
-    let built = read_count(words.next())?;
-    let times = read_count(words.next())?;
-    Some(Task {
-        subject,
-        work,
-        arrival,
-        range,
-        built,
-        times,
-    })
+impl FromStr for Task {
+    type Err = NotUnderstood;
+
+    fn from_str(line: &str) -> Result<Task, NotUnderstood> {
+        let mut words = line.split_whitespace();
+        Ok(Task {
+            subject: next(&mut words)?,
+            work: next(&mut words)?,
+            arrival: next(&mut words)?,
+            range: next(&mut words)?,
+            built: next(&mut words)?,
+            times: next(&mut words)?,
+        })
+    }
 }
