@@ -1,5 +1,5 @@
 // One line of a trace: the words of its positive and of its negative atoms, and the numbers of its two antecedent lines, both 0 where it was given.
-#[derive(Clone, Copy)]
+#[derive(Clone, Copy, Debug, PartialEq, Eq)]
 pub struct Line {
     pub positive: u64,
     pub negative: u64,
@@ -8,7 +8,7 @@ pub struct Line {
 }
 
 // What the trailer says: the count of atoms, the distance in bytes back to line 1, the number of the last line, and the count of given lines.
-#[derive(Clone, Copy)]
+#[derive(Clone, Copy, Debug, PartialEq, Eq)]
 pub struct Trailer {
     pub atoms: u32,
     pub distance: u32,

@@ -1,44 +1,29 @@
-ghost use Rattle.std.specs.Prelude.{◌≡◌, ℕ, ◌+◌, ◌*◌, ◌≤◌, length, take, Decides, MatchOption};
-ghost use Rattle.lines.specs.Bytes.{number_at};
+ghost use Rattle.std.specs.Prelude.{◌≡◌, ℕ, ◌+◌, ◌*◌, ◌≤◌, length, take, drop, Decides, MatchOption};
 ghost use Rattle.lines.specs.Format.{line_of, line_number, reaches, trailer_of, mark, Ends};
 
 use crate::line::{Line, MARK, Trailer};
 
-// The number that the eight bytes from `at` on write.
-fn word(part: &[u8], at: usize) -> u64
-    requires { at + 8 ≤ length part.now }
-    ensures { result ≡ number_at part.now at 8 }
+// The N bytes from `at` on.
+fn bytes<const N: usize>(part: &[u8], at: usize) -> [u8; N]
+    requires { at + N ≤ length part.now }
+    ensures { result ≡ take N (drop at part.now) }
 {
-    u64::from_be_bytes([
-        part[at],
-        part[at + 1],
-        part[at + 2],
-        part[at + 3],
-        part[at + 4],
-        part[at + 5],
-        part[at + 6],
-        part[at + 7],
-    ])
+    match part[at..].first_chunk() {
+        Some(bytes) => *bytes,
+        None => unreachable(),
+    }
 }
 
-// The number that the four bytes from `at` on write.
-fn half(part: &[u8], at: usize) -> u32
-    requires { at + 4 ≤ length part.now }
-    ensures { result ≡ number_at part.now at 4 }
-{
-    u32::from_be_bytes([part[at], part[at + 1], part[at + 2], part[at + 3]])
-}
-
-// The line that a part of 24 bytes writes.
+// The line that 24 bytes write.
 fn line(part: &[u8]) -> Line
     requires { length part.now ≡ 24 }
     ensures { result ≡ line_of part.now }
 {
     Line {
-        positive: word(part, 0),
-        negative: word(part, 8),
-        first: half(part, 16),
-        second: half(part, 20),
+        positive: u64::from_be_bytes(bytes(part, 0)),
+        negative: u64::from_be_bytes(bytes(part, 8)),
+        first: u32::from_be_bytes(bytes(part, 16)),
+        second: u32::from_be_bytes(bytes(part, 20)),
     }
 }
 
@@ -53,19 +38,15 @@ pub(crate) fn has_line(trace: &[u8], k: u32) -> bool
 pub fn line_at(trace: &[u8], k: u32) -> Option<Line>
     ensures { result ≡ line_number trace.now k }
 {
-    if !has_line(trace, k) {
-        return None;
-    }
-    let k = k as usize;
-    Some(line(&trace[24 * (k - 1)..24 * k]))
+    let end = 24 * k as usize;
+    has_line(trace, k).then(|| line(&trace[end - 24..end]))
 }
 
 // Whether the part begins with the mark.
 fn is_marked(part: &[u8]) -> bool
-    requires { 4 ≤ length part.now }
     ensures { Decides result (take 4 part.now ≡ mark) }
 {
-    part[0..4] == MARK[..]
+    part.starts_with(&MARK)
 }
 
 // The numbers of a trailer of 24 bytes.
@@ -74,10 +55,10 @@ fn numbers(part: &[u8]) -> Trailer
     ensures { result ≡ trailer_of part.now }
 {
     Trailer {
-        atoms: half(part, 4),
-        distance: half(part, 8),
-        last: half(part, 12),
-        given: half(part, 16),
+        atoms: u32::from_be_bytes(bytes(part, 4)),
+        distance: u32::from_be_bytes(bytes(part, 8)),
+        last: u32::from_be_bytes(bytes(part, 12)),
+        given: u32::from_be_bytes(bytes(part, 16)),
     }
 }
 
@@ -85,15 +66,7 @@ fn numbers(part: &[u8]) -> Trailer
 pub fn trailer(trace: &[u8]) -> Option<Trailer>
     ensures { MatchOption result ((t : Trailer) → Ends trace.now t → ⊥) (λ t. Ends trace.now t) }
 {
-    if trace.len() < 24 {
-        return None;
-    }
-    let part = &trace[trace.len() - 24..];
-    if !is_marked(part) {
-        return None;
-    }
-    if half(part, 20) != 0 {
-        return None;
-    }
-    Some(numbers(part))
+    let part: &[u8; 24] = trace.last_chunk()?;
+    let closed = u32::from_be_bytes(bytes(part, 20)) == 0;
+    (is_marked(part) && closed).then(|| numbers(part))
 }

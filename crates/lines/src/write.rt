@@ -1,41 +1,30 @@
 ghost use Rattle.std.specs.Prelude.{◌≡◌, ℕ, ◌+◌, ◌-◌, ◌*◌, ◌≤◌, true, length, take};
 ghost use Rattle.clause.specs.Refusals.{answer};
-ghost use Rattle.lines.specs.Bytes.{bytes_of, wrote};
-ghost use Rattle.lines.specs.Format.{line_at, line_bytes, reaches, with_line, mark, trailer_bytes, has_room, with_trailer, fitted, Ends};
+ghost use Rattle.lines.specs.Bytes.{wrote};
+ghost use Rattle.lines.specs.Format.{line_at, line_bytes, reaches, with_line, trailer_bytes, has_room, with_trailer, fitted, Ends};
 
 use crate::line::{Line, MARK, Trailer};
 use crate::read::has_line;
 use clause::refusal::Refusal;
 
-fn put_word(out: &mut [u8], at: usize, n: u64)
-    requires { at + 8 ≤ length out.old }
-    ensures { out.new ≡ wrote out.old at (bytes_of 8 n) }
+// Writes the bytes over those from `at` on.
+fn put(out: &mut [u8], at: usize, bytes: &[u8])
+    requires { at + length bytes.now ≤ length out.old }
+    ensures { out.new ≡ wrote out.old at bytes.now }
 {
-    out[at..at + 8].copy_from_slice(&n.to_be_bytes());
+    out[at..at + bytes.len()].copy_from_slice(bytes);
 }
 
-fn put_half(out: &mut [u8], at: usize, n: u32)
-    requires { at + 4 ≤ length out.old }
-    ensures { out.new ≡ wrote out.old at (bytes_of 4 n) }
+// The bytes that write a line.
+fn line_bytes(line: Line) -> [u8; 24]
+    ensures { result ≡ line_bytes line }
 {
-    out[at..at + 4].copy_from_slice(&n.to_be_bytes());
-}
-
-fn put_mark(out: &mut [u8], at: usize)
-    requires { at + 4 ≤ length out.old }
-    ensures { out.new ≡ wrote out.old at mark }
-{
-    out[at..at + 4].copy_from_slice(&MARK);
-}
-
-fn put_line_at(out: &mut [u8], at: usize, line: Line)
-    requires { at + 24 ≤ length out.old }
-    ensures { out.new ≡ wrote out.old at (line_bytes line) }
-{
-    put_word(out, at, line.positive);
-    put_word(out, at + 8, line.negative);
-    put_half(out, at + 16, line.first);
-    put_half(out, at + 20, line.second);
+    let mut bytes = [0; 24];
+    put(&mut bytes, 0, &line.positive.to_be_bytes());
+    put(&mut bytes, 8, &line.negative.to_be_bytes());
+    put(&mut bytes, 16, &line.first.to_be_bytes());
+    put(&mut bytes, 20, &line.second.to_be_bytes());
+    bytes
 }
 
 // The byte that line k begins at.
@@ -55,20 +44,21 @@ pub fn put_line(out: &mut [u8], k: u32, line: Line) -> Result<(), Refusal>
     if !has_line(out, k) {
         return Err(Refusal::TooShort);
     }
-    put_line_at(out, start_of(k), line);
+    put(out, start_of(k), &line_bytes(line));
     Ok(())
 }
 
-fn put_trailer_at(out: &mut [u8], at: usize, trailer: Trailer)
-    requires { at + 24 ≤ length out.old }
-    ensures { out.new ≡ wrote out.old at (trailer_bytes trailer) }
+// The bytes that write a trailer.
+fn trailer_bytes(trailer: Trailer) -> [u8; 24]
+    ensures { result ≡ trailer_bytes trailer }
 {
-    put_mark(out, at);
-    put_half(out, at + 4, trailer.atoms);
-    put_half(out, at + 8, trailer.distance);
-    put_half(out, at + 12, trailer.last);
-    put_half(out, at + 16, trailer.given);
-    put_half(out, at + 20, 0);
+    let mut bytes = [0; 24];
+    put(&mut bytes, 0, &MARK);
+    put(&mut bytes, 4, &trailer.atoms.to_be_bytes());
+    put(&mut bytes, 8, &trailer.distance.to_be_bytes());
+    put(&mut bytes, 12, &trailer.last.to_be_bytes());
+    put(&mut bytes, 16, &trailer.given.to_be_bytes());
+    bytes
 }
 
 // Whether the bytes have place for a trailer at this distance from their start.
@@ -87,6 +77,6 @@ pub fn put_trailer(out: &mut [u8], trailer: Trailer) -> Result<(), Refusal>
     if !has_place(out, trailer.distance) {
         return Err(Refusal::TooShort);
     }
-    put_trailer_at(out, trailer.distance as usize, trailer);
+    put(out, trailer.distance as usize, &trailer_bytes(trailer));
     Ok(())
 }
