@@ -1,6 +1,6 @@
-ghost use Rattle.std.specs.Prelude.{◌≡◌, ℕ, ◌*◌, ◌<◌, ◌≤◌, ◌&&◌, length, ◌==◌, bit_and, count_ones};
+ghost use Rattle.std.specs.Prelude.{◌≡◌, ℕ, ◌*◌, ◌<◌, ◌≤◌, ◌&&◌, cond, Some, None, length, ◌==◌, bit_and, count_ones};
 ghost use Rattle.lines.specs.Format.{literals, line_at};
-ghost use Rattle.rule.specs.Tests.{is_earlier, are_earlier, is_joined, resolves, is_derived};
+ghost use Rattle.rule.specs.Tests.{is_earlier, is_joined, resolves, is_derived};
 
 use lines::line::Line;
 use lines::read::line_at;
@@ -10,13 +10,6 @@ fn is_earlier(j: u32, k: u32) -> bool
     ensures { result ≡ is_earlier j k }
 {
     j >= 1 && j < k
-}
-
-// Whether both numbers of the line name lines before line k.
-fn are_earlier(line: Line, k: u32) -> bool
-    ensures { result ≡ are_earlier line k }
-{
-    is_earlier(line.first, k) && is_earlier(line.second, k)
 }
 
 // The word of the atoms that are positive in the first line and negative in the second.
@@ -46,20 +39,18 @@ fn resolves(first: Line, second: Line, line: Line) -> bool
     ensures { result ≡ resolves (literals first) (literals second) (literals line) }
 {
     let atom = cancelled(first, second);
-    if !is_single(atom) {
-        return false;
-    }
-    is_joined(first, second, line, atom)
+    is_single(atom) && is_joined(first, second, line, atom)
 }
 
-// Line j, which lies before line k.
-fn line_before(trace: &[u8], j: u32, k: u32) -> Line
-    requires { (1 ≤ j) × ((j < k) × (24 * k ≤ length trace.now)) }
-    ensures { result ≡ line_at trace.now j }
+// Line j of the trace, where it lies before line k, to which the bytes reach.
+fn line_before(trace: &[u8], j: u32, k: u32) -> Option<Line>
+    requires { 24 * k ≤ length trace.now }
+    ensures { result ≡ cond (is_earlier j k) (Some (line_at trace.now j)) None }
 {
-    match line_at(trace, j) {
-        Some(line) => line,
-        None => unreachable(),
+    if is_earlier(j, k) {
+        line_at(trace, j)
+    } else {
+        None
     }
 }
 
@@ -68,10 +59,6 @@ pub(crate) fn is_derived(trace: &[u8], k: u32, line: Line) -> bool
     requires { 24 * k ≤ length trace.now }
     ensures { result ≡ is_derived trace.now k line }
 {
-    if !are_earlier(line, k) {
-        return false;
-    }
-    let first = line_before(trace, line.first, k);
-    let second = line_before(trace, line.second, k);
-    resolves(first, second, line)
+    let antecedents = line_before(trace, line.first, k).zip(line_before(trace, line.second, k));
+    antecedents.is_some_and(|(first, second)| resolves(first, second, line))
 }

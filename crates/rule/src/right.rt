@@ -18,34 +18,38 @@ pub fn is_bare(line: Line) -> bool
 fn clause_within(line: Line, atoms: u32) -> Option<Clause>
     ensures { result ≡ clause_within atoms line }
 {
-    let Some(clause) = Clause::of_words(line.positive, line.negative) else {
-        return None;
-    };
-    if clause.highest() > atoms {
-        return None;
-    }
-    Some(clause)
+    Clause::of_words(line.positive, line.negative).filter(|clause| clause.highest() <= atoms)
 }
 
-// Whether line k passes every test.
-fn passes(trace: &[u8], atoms: u32, last: u32, k: u32) -> bool
-    ensures { result ≡ passes trace.now atoms last k }
-{
-    let Some(line) = line_at(trace, k) else {
-        return false;
-    };
-    let Some(clause) = clause_within(line, atoms) else {
-        return false;
-    };
-    if clause.is_empty() != (k == last) {
-        return false;
-    }
-    is_bare(line) && !clause.is_empty() || is_derived(trace, k, line)
+// What a trace is taken for: its bytes, the count of its atoms, and the number of its last line.
+#[derive(Clone, Copy)]
+pub struct Claim<'a> {
+    pub trace: &'a [u8],
+    pub atoms: u32,
+    pub last: u32,
 }
 
-// Whether line k of the trace is right, over the atoms 1 to `atoms` and with `last` as the number of the last line.
-pub fn is_right(trace: &[u8], atoms: u32, last: u32, k: u32) -> bool
-    ensures { Decides result (Right trace.now atoms last k) }
-{
-    passes(trace, atoms, last, k)
+impl<'a> Claim<'a> {
+    // Whether line k passes every test.
+    fn passes(self, k: u32) -> bool
+        ensures { result ≡ passes self.entry.trace.now self.entry.atoms self.entry.last k }
+    {
+        let Some(line) = line_at(self.trace, k) else {
+            return false;
+        };
+        let Some(clause) = clause_within(line, self.atoms) else {
+            return false;
+        };
+        if clause.is_empty() != (k == self.last) {
+            return false;
+        }
+        is_bare(line) && !clause.is_empty() || is_derived(self.trace, k, line)
+    }
+
+    // Whether line k is right.
+    pub fn is_right(self, k: u32) -> bool
+        ensures { Decides result (Right self.entry.trace.now self.entry.atoms self.entry.last k) }
+    {
+        self.passes(k)
+    }
 }
