@@ -8,8 +8,8 @@ use clause::refusal::Refusal;
 
 // Opens a check of the bytes, takes lines until the last or a fault, and closes it.
 fn taken_whole<'a>(trace: &'a [u8]) -> ClosedCheck<'a>
-    ensures bytes { result.trace.now ≡ trace.now }
-    ensures done { waiting result.last result.taken result.fault ≡ false }
+    ensures bytes { result.check.claim.trace.now ≡ trace.now }
+    ensures done { waiting result.check.claim.last result.check.taken result.check.fault ≡ false }
 {
     let mut check = OpenCheck::open(trace);
     while check.waits() {

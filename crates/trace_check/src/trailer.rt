@@ -1,9 +1,9 @@
-ghost use Rattle.std.specs.Prelude.{◌≡◌, ℕ, ◌-◌, ◌*◌, ◌/◌, ◌≤◌, length, MatchOption};
-ghost use Rattle.lines.specs.Format.{line_at};
+ghost use Rattle.std.specs.Prelude.{◌≡◌, ℕ, ◌-◌, ◌*◌, ◌/◌, ◌≤◌, ◌&&◌, length, MatchOption};
+ghost use Rattle.lines.specs.Format.{line_at, reaches};
 ghost use Rattle.rule.specs.Tests.{is_bare};
 ghost use Rattle.trace_check.specs.Trailers.{givens, sized, counted, agrees, Ended};
 
-use lines::line::{Line, Trailer};
+use lines::line::Trailer;
 use lines::read::{line_at, trailer};
 use rule::right::is_bare;
 
@@ -21,15 +21,11 @@ fn is_counted(atoms: u32) -> bool
     atoms >= 1 && atoms <= 64
 }
 
-// Line k, to which the bytes reach.
-fn line_within(trace: &[u8], k: u32) -> Line
-    requires { (1 ≤ k) × (24 * k ≤ length trace.now) }
-    ensures { result ≡ line_at trace.now k }
+// Whether the trace has a line k with both numbers 0.
+fn is_given(trace: &[u8], k: u32) -> bool
+    ensures { result ≡ (reaches trace.now k && is_bare (line_at trace.now k)) }
 {
-    match line_at(trace, k) {
-        Some(line) => line,
-        None => unreachable(),
-    }
+    line_at(trace, k).is_some_and(is_bare)
 }
 
 // How many of the first `last` lines have both numbers 0.
@@ -37,13 +33,7 @@ fn given_lines(trace: &[u8], last: u32) -> u32
     requires { 24 * last ≤ length trace.now }
     ensures { result ≡ givens trace.now last }
 {
-    let mut count = 0;
-    for i in 0..last {
-        if is_bare(line_within(trace, i + 1)) {
-            count += 1;
-        }
-    }
-    count
+    (1..=last).filter(|k| is_given(trace, *k)).count() as u32
 }
 
 // Whether the numbers of the trailer are those of the trace.
@@ -62,16 +52,8 @@ pub(crate) fn right_trailer(trace: &[u8]) -> Option<Trailer>
     if !is_sized(trace.len()) {
         return None;
     }
-    let Some(trailer) = trailer(trace) else {
-        return None;
-    };
-    if !is_counted(trailer.atoms) {
-        return None;
-    }
+    let trailer = trailer(trace).filter(|trailer| is_counted(trailer.atoms))?;
     let distance = trace.len() - 24;
     let given = given_lines(trace, (distance / 24) as u32);
-    if !is_agreed(trailer, distance, given) {
-        return None;
-    }
-    Some(trailer)
+    is_agreed(trailer, distance, given).then_some(trailer)
 }

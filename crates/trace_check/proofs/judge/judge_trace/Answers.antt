@@ -8,11 +8,11 @@ use Rattle.trace_check.proofs.judge.judge_trace.Goals as goal
 
 ended : (c : goal.After-judge) → Outcome c.args.trace.now (answer c.judge.result)
 ended c =
-    let d = c.taken_whole.result in
-    let o : Outcome d.trace.now (judgement d.last d.taken d.fault) =
-    outcome d.trace.now d.atoms d.last d.taken d.fault d.within c.taken_whole.ensures.done (stands_out d.trace.now d.atoms d.last d.taken d.fault d.stands) in
+    let d = c.taken_whole.result.check in
+    let o : Outcome d.claim.trace.now (judgement d.claim.last d.taken d.fault) =
+    outcome d.claim.trace.now d.claim.atoms d.claim.last d.taken d.fault d.within c.taken_whole.ensures.done (stands_out d.claim.trace.now d.claim.atoms d.claim.last d.taken d.fault d.stands) in
     let P : List ℕ → Type 0 = λ bs. Outcome bs (answer c.judge.result) in
-    let Q : Result (Unit {0}) Told → Type 0 = λ r. Outcome d.trace.now r in
+    let Q : Result (Unit {0}) Told → Type 0 = λ r. Outcome d.claim.trace.now r in
     subst P c.taken_whole.ensures.bytes (subst Q (sym c.judge.ensures.value) o)
 
 pub returns : goal.returns

@@ -1,19 +1,17 @@
-use Rattle.std.proofs.Common.{◌≡◌, Bool, true, false, refl, ap, ◌∙◌, arith}
-use Rattle.rule.specs.Tests.{is_bare}
-use Rattle.trace_check.specs.Trailers.{givens}
-use Rattle.trace_check.proofs.Counting.{givens_more}
+use Rattle.std.proofs.Common.{◌≡◌, ℕ, ◌+◌, ◌<◌, length, get_or, ◌∙◌, rules}
+use Rattle.std.proofs.iter.runs.Made.{chains}
+use Rattle.std.proofs.iter.runs.Sources.{ranges}
+use Rattle.std.specs.List.{count_by}
+use Rattle.trace_check.proofs.Counting.{given_at, givens_are}
 use Rattle.trace_check.proofs.trailer.given_lines.Goals as goal
-use Rattle.trace_check.proofs.trailer.given_lines.Goals.{then-is_bare, else-is_bare}
 
-pub loop-i-init : goal.loop-i-init
-unfolding givens
-loop-i-init c = (refl, omega arith)
-
-pub loop-i-preserved : goal.loop-i-preserved
-loop-i-preserved c =
-    let line = ap is_bare c.line_within.ensures in
-    let step = λ (b : Bool) (e : b ≡ is_bare c.line_within.result). givens_more c.args.trace.now c.loop-i.i b (e ∙ line) in
-    elim c.if-is_bare.branch [
-      | then-is_bare w ↦ let g = step true w.if-is_bare.ensures in (omega (arith, g, w.count-is, c.loop-i.invariant.0), omega (arith, w.count-is, c.loop-i.invariant.1))
-      | else-is_bare w ↦ let g = step false w.if-is_bare.ensures in (omega (arith, g, w.count-is, c.loop-i.invariant.0), omega (arith, w.count-is, c.loop-i.invariant.1))
-    ]
+pub returns : goal.returns
+returns c =
+    let bs = c.args.trace.now in
+    let run = c.count.ensures.runs in
+    let filtered = c.filter.ensures.runs run.0 run.0.seen run.1 in
+    let from = filtered.0 in
+    let n : c.count.result ≡ count_by (given_at bs) from.items = search (rules, chains) in
+    let l : length from.items ≡ c.args.last = search (rules, ranges) in
+    let at : (i : ℕ) → i < length from.items → get_or from.items i 0 ≡ 1 + i = λ i h. search (rules, ranges) in
+    n ∙ givens_are bs c.args.last from.items c.requires l at
