@@ -1,6 +1,9 @@
 -- Entries by their number.
-use Rattle.std.proofs.Common.{◌≡◌, ℕ, zero, suc, List, [], ◌∷◌, get_or, Some, None, refl, arith}
+use Rattle.std.proofs.Common.{◌≡◌, ℕ, zero, suc, List, [], ◌∷◌, get_or, Some, None, Option, refl, ap, ◌∙◌, arith}
 use Rattle.std.specs.List.{slice_get}
+use Rattle.std.specs.Option.{unwrap_or}
+use Rattle.clause.specs.declared.words.Clause.{Clause}
+use Rattle.clause.specs.Clauses.{Literals, lits}
 use Rattle.store.specs.declared.entry.Entry.{Entry}
 use Rattle.store.specs.Held.{blank, entry_at}
 use Rattle.lines.specs.declared.line.Line.{Line}
@@ -25,6 +28,12 @@ pub no_entry : (es : List Entry) (k : ℕ) → None ≡ entry_at es k → blank 
 no_entry es zero p = refl
 no_entry es (suc k) p = nth_none es k p
 
-pub line_is : (e : Entry) (p n f s : ℕ) → p ≡ e.clause.positive → n ≡ e.clause.negative → f ≡ e.first → s ≡ e.second
-    → ◌≡◌ {A = Line} (record { positive = p; negative = n; first = f; second = s }) (as_line e)
-line_is e p n f s a b c d = λ i. record { positive = a i; negative = b i; first = c i; second = d i }
+-- the line of entry k, or that of the empty clause
+pub line_or : (es : List Entry) (k : ℕ) (o : Option Entry) (d : Entry) → o ≡ entry_at es k → as_line d ≡ as_line blank → as_line (unwrap_or o d) ≡ as_line (entry_of es k)
+line_or es k (Some x) d e f = ap as_line (is_entry es k x e)
+line_or es k None d e f = f ∙ ap as_line (no_entry es k e)
+
+pub line_none : (c : Clause) (e : Entry) → lits c ≡ record { pos = 0; neg = 0 } → e ≡ record { clause = c; first = 0; second = 0 } → as_line e ≡ as_line blank
+line_none c e l d =
+    let line : Literals → Line = λ x. record { positive = x.pos; negative = x.neg; first = 0; second = 0 } in
+    ap as_line d ∙ ap line l

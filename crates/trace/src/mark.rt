@@ -4,14 +4,14 @@ ghost use Rattle.trace.specs.Calls.{over};
 
 use crate::held::{count, held_line};
 use session::session::Session;
+use store::entry::Entry;
 use store::store::ClauseStore;
 
-// Whether the mark at index i, that of entry i + 1, is set.
-pub(crate) fn is_marked(marks: &[u8], i: usize) -> bool
-    requires { i < length marks.now }
-    ensures { result ≡ (slice_index marks.now i == 1) }
+// Whether the mark of an entry is set.
+pub(crate) fn is_marked(mark: u8) -> bool
+    ensures { result ≡ (mark == 1) }
 {
-    marks[i] == 1
+    mark == 1
 }
 
 // Marks entry k, if it is one of the first `upto`.
@@ -24,13 +24,6 @@ fn note(marks: &mut [u8], upto: usize, k: u32)
     }
 }
 
-fn unmark(marks: &mut [u8], i: usize)
-    requires { i < length marks.old }
-    ensures { marks.new ≡ slice_set marks.old i 0 }
-{
-    marks[i] = 0;
-}
-
 // None of the first `size` marks is set.
 fn clear(marks: &mut [u8], size: usize)
     requires { size ≤ length marks.old }
@@ -38,28 +31,20 @@ fn clear(marks: &mut [u8], size: usize)
     ensures none { (i : ℕ) → i < size → slice_index marks.new i ≡ 0 }
     ensures rest { (i : ℕ) → size ≤ i → slice_index marks.new i ≡ slice_index marks.old i }
 {
-    for i in 0..size {
-        unmark(marks, i);
-    }
+    marks[..size].fill(0);
 }
 
-// Marks the entries that the empty clause, derived from entries `first` and `second`, depends on. Antecedents lie below their entries, so one pass
-// from the last entry down is enough.
-pub(crate) fn mark<S: ClauseStore>(
-    session: &Session<'_, S>,
-    first: u16,
-    second: u16,
-    marks: &mut [u8],
-)
+// Marks the entries that the last derivation depends on. Antecedents lie below their entries, so one pass from the last entry down is enough.
+pub(crate) fn mark<S: ClauseStore>(session: &Session<'_, S>, last: Entry, marks: &mut [u8])
     requires { length (S.held session.now.store.now).entries ≤ length marks.old }
-    ensures { marks.new ≡ over (marks_of (S.held session.now.store.now).entries first second) marks.old }
+    ensures { marks.new ≡ over (marks_of (S.held session.now.store.now).entries last.first last.second) marks.old }
 {
     let size = count(session);
     clear(marks, size);
-    note(marks, size, u32::from(first));
-    note(marks, size, u32::from(second));
+    note(marks, size, u32::from(last.first));
+    note(marks, size, u32::from(last.second));
     for i in (0..size).rev() {
-        if is_marked(marks, i) {
+        if is_marked(marks[i]) {
             let line = held_line(session, i as u16 + 1);
             note(marks, i, line.first);
             note(marks, i, line.second);

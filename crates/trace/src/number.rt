@@ -10,10 +10,10 @@ use lines::line::Line;
 fn line_of(table: &[u16], k: u32) -> u32
     ensures { result ≡ line_in table.now k }
 {
-    if k == 0 || k as usize > table.len() {
+    let Some(i) = k.checked_sub(1) else {
         return 0;
-    }
-    u32::from(table[k as usize - 1])
+    };
+    table.get(i as usize).map_or(0, |line| u32::from(*line))
 }
 
 // The line with the numbers of lines in place of those of entries, by the table.
@@ -21,10 +21,9 @@ pub(crate) fn renumber(table: &[u16], line: Line) -> Line
     ensures { result ≡ by_table table.now line }
 {
     Line {
-        positive: line.positive,
-        negative: line.negative,
         first: line_of(table, line.first),
         second: line_of(table, line.second),
+        ..line
     }
 }
 
@@ -34,8 +33,8 @@ pub(crate) fn number(marks: &[u8], size: usize, table: &mut [u16])
     ensures { Table (order (marked marks.now) size) table.new }
 {
     let mut lines: u16 = 0;
-    for i in 0..size {
-        if is_marked(marks, i) {
+    for (i, mark) in marks[..size].iter().enumerate() {
+        if is_marked(*mark) {
             lines += 1;
             table[i] = lines;
         }

@@ -2,17 +2,18 @@ ghost use Rattle.std.specs.Prelude.{◌≡◌, ℕ, ◌+◌, ◌*◌, ◌≤◌,
 ghost use Rattle.rule.specs.Tests.{is_bare};
 ghost use Rattle.lines.specs.Bytes.{wrote as put};
 ghost use Rattle.lines.specs.Format.{line_bytes, trailer_bytes};
-ghost use Rattle.trace.specs.Lines.{chosen, closing, entry_lines, lines_bytes, given_lines, trailer_for, trace_lines, trace_of};
+ghost use Rattle.trace.specs.Lines.{as_line, chosen, closing, entry_lines, lines_bytes, given_lines, trailer_for, trace_lines, trace_of};
 ghost use Rattle.trace.specs.Calls.{over};
 ghost use Rattle.trace.specs.Tables.{Table};
 
-use crate::held::{count, held_line};
+use crate::held::{count, entry_line, held_line};
 use crate::mark::is_marked;
 use crate::number::{number, renumber};
 use lines::line::{Line, Trailer};
 use lines::write::{put_line, put_trailer};
 use rule::right::is_bare;
 use session::session::Session;
+use store::entry::Entry;
 use store::store::ClauseStore;
 
 // How many lines were written, and how many of them are given.
@@ -25,19 +26,7 @@ pub(crate) struct Count {
 fn given_of(line: Line) -> u32
     ensures { result ≡ (if is_bare line then 1 else 0) }
 {
-    if is_bare(line) { 1 } else { 0 }
-}
-
-// The empty clause, with the two entries that it was derived from.
-fn empty_clause(first: u16, second: u16) -> Line
-    ensures { result ≡ closing first second }
-{
-    Line {
-        positive: 0,
-        negative: 0,
-        first: u32::from(first),
-        second: u32::from(second),
-    }
+    u32::from(is_bare(line))
 }
 
 fn trailer_for(atoms: u32, count: Count) -> Trailer
@@ -65,11 +54,10 @@ fn put_entries<S: ClauseStore>(
     ensures given { result.given ≡ given_lines (entry_lines (S.held session.now.store.now).entries (chosen marks.now (S.held session.now.store.now).entries)) }
     ensures few { (result.lines ≤ length (S.held session.now.store.now).entries) × (result.given ≤ result.lines) }
 {
-    let size = count(session);
     let mut lines = 0;
     let mut given = 0;
-    for i in 0..size {
-        if is_marked(marks, i) {
+    for (i, mark) in marks[..count(session)].iter().enumerate() {
+        if is_marked(*mark) {
             let line = renumber(table, held_line(session, i as u16 + 1));
             let _ = put_line(buffer, lines + 1, line);
             lines += 1;
@@ -94,21 +82,21 @@ fn put_end(buffer: &mut [u8], atoms: u32, entries: Count, last: Line) -> usize
     24 * (count.lines as usize + 1)
 }
 
-// Writes the trace of the marked entries and of the empty clause, derived from entries `first` and `second`: its length.
+// Writes the trace of the marked entries and of the last derivation: its length.
 pub(crate) fn put_trace<S: ClauseStore>(
     session: &Session<'_, S>,
-    first: u16,
-    second: u16,
+    last: Entry,
     marks: &[u8],
     buffer: &mut [u8],
 ) -> usize
-    requires { (length (S.held session.now.store.now).entries ≤ length marks.now) × (24 * (length (S.held session.now.store.now).entries + 2) ≤ length buffer.old) }
-    ensures bytes { buffer.new ≡ over (trace_of session.now.search.atoms (trace_lines (S.held session.now.store.now).entries (chosen marks.now (S.held session.now.store.now).entries) first second)) buffer.old }
-    ensures count { result ≡ length (trace_of session.now.search.atoms (trace_lines (S.held session.now.store.now).entries (chosen marks.now (S.held session.now.store.now).entries) first second)) }
+    requires empty { as_line last ≡ closing last.first last.second }
+    requires room { (length (S.held session.now.store.now).entries ≤ length marks.now) × (24 * (length (S.held session.now.store.now).entries + 2) ≤ length buffer.old) }
+    ensures bytes { buffer.new ≡ over (trace_of session.now.search.atoms (trace_lines (S.held session.now.store.now).entries (chosen marks.now (S.held session.now.store.now).entries) last.first last.second)) buffer.old }
+    ensures count { result ≡ length (trace_of session.now.search.atoms (trace_lines (S.held session.now.store.now).entries (chosen marks.now (S.held session.now.store.now).entries) last.first last.second)) }
 {
     let mut table = [0u16; 16384];
     number(marks, count(session), &mut table);
     let entries = put_entries(session, marks, &table, buffer);
-    let last = renumber(&table, empty_clause(first, second));
-    put_end(buffer, session.search().atoms, entries, last)
+    let line = renumber(&table, entry_line(last));
+    put_end(buffer, session.search().atoms, entries, line)
 }

@@ -22,15 +22,15 @@ returns g c =
     let d = c.put_entries-entries in
     let n = c.args.session.now.search.atoms in
     let table = c.number.new.table in
-    let l = c.renumber-last.result in
+    let l = c.renumber-line.result in
     let tab : Table ks table = subst (λ (k : ℕ). Table (order (marked ms) k) table) c.count.ensures.value c.number.ensures in
-    let is = c.renumber-last.ensures ∙ ap (by_table table) c.empty_clause.ensures in
+    let is = c.renumber-line.ensures ∙ ap (by_table table) (c.entry_line.ensures ∙ c.requires.empty) in
     let p = c.put_end.ensures.bytes
     ∙ ap (λ (s : Search). put (put d.new.buffer (24 * d.result.lines) (line_bytes l)) (24 * (d.result.lines + 1))
     (trailer_bytes (trailer_for s.atoms (d.result.lines + 1) (d.result.given + cond (is_bare l) 1 0)))) c.search.ensures in
     record {
-      bytes = trace_put es ks o d.new.buffer c.put_end.new.buffer n c.args.first c.args.second d.result.lines d.result.given table l
+      bytes = trace_put es ks o d.new.buffer c.put_end.new.buffer n c.args.last.first c.args.last.second d.result.lines d.result.given table l
           tab d.ensures.wrote d.ensures.lines d.ensures.given is p;
-      count = c.put_end.ensures.count ∙ trace_count es ks o d.new.buffer c.put_end.new.buffer n c.args.first c.args.second d.result.lines d.result.given table l
+      count = c.put_end.ensures.count ∙ trace_count es ks o d.new.buffer c.put_end.new.buffer n c.args.last.first c.args.last.second d.result.lines d.result.given table l
           tab d.ensures.wrote d.ensures.lines d.ensures.given is p;
     }
