@@ -1,12 +1,10 @@
 -- What one line adds to what stands before the heading.
 use Rattle.std.proofs.Common.{◌≡◌, ℕ, suc, ◌+◌, ◌<◌, Bool, true, false, cond, eqb, List, [], ◌∷◌, length, get_or, drop, sym, refl, ap, ◌∙◌, ⊎_elim, suc-add, zero-add, one-add, arith}
 use Rattle.std.specs.List.{prefix_len}
-use Rattle.std.proofs.lemmas.Bool.{cases_Bool, cond-true, cond-false, eq-eqb, ne_eqb}
+use Rattle.std.proofs.lemmas.Bool.{cases_Bool, cases_lt, cond-true, cond-false, eq-eqb, ne_eqb}
 use Rattle.std.proofs.lemmas.List.{drop-drop, at_drop_more, at_drop_all}
 use Rattle.std.proofs.lemmas.Bool.Decides.{nat_tests}
-use Rattle.dimacs.specs.declared.runs.Class.{Class}
-use Rattle.dimacs.specs.declared.runs.Class.TheVariants.{InLine, Indent}
-use Rattle.dimacs.specs.Runs.{blank, in_line, indent, holds}
+use Rattle.dimacs.specs.Runs.{blank, in_line, indent}
 use Rattle.dimacs.specs.Preface.{Where, start, middle, comment, preface, lead}
 
 -- what stands before the heading, from a word or the end of a line on
@@ -57,36 +55,29 @@ one_line (b ∷ bs) = ⊎_elim
     (λ y.
     let i : in_line b ≡ true = grind (arith, nat_tests) in
     let one : prefix_len in_line (b ∷ bs) ≡ suc (prefix_len in_line bs) = cond-true (in_line b) _ _ i ∙ one-add _ in
-    let is : lead (b ∷ bs) ≡ suc (prefix_len in_line bs) = ap (λ (k : Class). prefix_len (holds k) (b ∷ bs)) (cond-true (eqb b 99) InLine Indent y) ∙ one in
+    let is : lead (b ∷ bs) ≡ suc (prefix_len in_line bs) = ap (λ (p : ℕ → Bool). prefix_len p (b ∷ bs)) (cond-true (eqb b 99) in_line indent y) ∙ one in
     cond-true (eqb b 99) _ _ y ∙ ap suc (in_comment bs) ∙ sym (suc-add _ _) ∙ ap (λ n. n + tail (drop n (b ∷ bs))) (sym is))
     (λ n.
-    let is : lead (b ∷ bs) ≡ prefix_len indent (b ∷ bs) = ap (λ (k : Class). prefix_len (holds k) (b ∷ bs)) (cond-false (eqb b 99) InLine Indent n) in
+    let is : lead (b ∷ bs) ≡ prefix_len indent (b ∷ bs) = ap (λ (p : ℕ → Bool). prefix_len p (b ∷ bs)) (cond-false (eqb b 99) in_line indent n) in
     cond-false (eqb b 99) _ _ n ∙ in_middle (b ∷ bs) ∙ ap (λ k. k + tail (drop k (b ∷ bs))) (sym is))
     (cases_Bool (eqb b 99))
 
--- one turn of the search for the heading: a line begins at place a, and its first word or its end is at e
-pub record Turn (t : List ℕ) (a e : ℕ) : Type 0 where
-  pub before : preface start t ≡ a + preface start (drop a t)
-  pub is : e ≡ a + lead (drop a t)
+-- a line that begins at place a, and whose first word or end is at e
+pub one_turn : (t : List ℕ) (a e : ℕ) → preface start t ≡ a + preface start (drop a t) → e ≡ a + lead (drop a t) → preface start t ≡ e + tail (drop e t)
+one_turn t a e before is =
+    let k : ℕ = lead (drop a t) in
+    let line : preface start (drop a t) ≡ k + tail (drop (a + k) t) = one_line (drop a t) ∙ ap (λ l. k + tail l) (drop-drop k a t) in
+    let moved : tail (drop (a + k) t) ≡ tail (drop e t) = ap (λ m. tail (drop m t)) (sym is) in
+    omega (arith, before, is, line, moved)
 
-module _ {t : List ℕ} {a e : ℕ} (turn : Turn t a e) where
-  so_far : preface start t ≡ e + tail (drop e t)
-  so_far =
-      let k : ℕ = lead (drop a t) in
-      let line : preface start (drop a t) ≡ k + tail (drop (a + k) t) = one_line (drop a t) ∙ ap (λ l. k + tail l) (drop-drop k a t) in
-      let moved : tail (drop (a + k) t) ≡ tail (drop e t) = ap (λ m. tail (drop m t)) (sym turn.is) in
-      omega (arith, turn.before, turn.is, line, moved)
+pub at_line : (t : List ℕ) (e : ℕ) → e < length t → get_or t e 0 ≡ 10 → tail (drop e t) ≡ 1 + preface start (drop (e + 1) t)
+unfolding tail
+at_line t e l h = at_drop_more tail t e 0 l ∙ cond-true (eqb (get_or t e 0) 10) _ _ (eq-eqb _ 10 h) ∙ omega arith
 
-  pub at_end : e ≡ length t → e ≡ preface start t
-  unfolding tail
-  at_end h = let z : tail (drop e t) ≡ 0 = at_drop_all tail t e (omega arith) in omega (arith, so_far)
-
-  pub at_word : e < length t → (get_or t e 0 ≡ 10 → ⊥) → e ≡ preface start t
-  unfolding tail
-  at_word l h =
-      let z : tail (drop e t) ≡ 0 = at_drop_more tail t e 0 l ∙ cond-false (eqb (get_or t e 0) 10) _ _ (ne_eqb _ 10 h) in omega (arith, so_far)
-
-  pub at_line : e < length t → get_or t e 0 ≡ 10 → preface start t ≡ (e + 1) + preface start (drop (e + 1) t)
-  unfolding tail
-  at_line l h =
-      let z : tail (drop e t) ≡ suc (preface start (drop (e + 1) t)) = at_drop_more tail t e 0 l ∙ cond-true (eqb (get_or t e 0) 10) _ _ (eq-eqb _ 10 h) in omega (arith, so_far)
+-- no line ends there: it is a word, or the end of the text
+pub at_word : (t : List ℕ) (e : ℕ) → (e < length t → get_or t e 0 ≡ 10 → ⊥) → tail (drop e t) ≡ 0
+unfolding tail
+at_word t e h = ⊎_elim
+    (λ l. at_drop_more tail t e 0 l ∙ cond-false (eqb (get_or t e 0) 10) _ _ (ne_eqb _ 10 (h l)))
+    (λ g. at_drop_all tail t e g)
+    (cases_lt e (length t))

@@ -1,4 +1,4 @@
-pub mod Capped
 pub mod Courses
 pub mod Lead
 pub mod Split
+pub mod Tested

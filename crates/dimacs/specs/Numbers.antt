@@ -1,13 +1,8 @@
 -- The numbers of a text.
-use Rattle.std.specs.Prelude.{ℕ, ◌+◌, ◌-◌, ◌*◌, min, Bool, true, false, cond, List, [], ◌∷◌, ℤ, pos, neg_ℤ, Some, None, Option, ◌==◌}
-use Rattle.std.specs.Char.{is_ascii_digit}
+use Rattle.std.specs.Prelude.{ℕ, min, Bool, true, false, cond, List, [], ◌∷◌, ℤ, pos, neg_ℤ, Some, None, Option, ◌==◌}
 use Rattle.std.specs.Option.{option_map}
+pub use Rattle.digits.specs.Digits.{reads}
 use Rattle.dimacs.specs.Words.{minus, unsigned}
-
--- the number that digits write after n, or nothing where a byte is no digit
-abbrev pub reads : ℕ → List ℕ → Option ℕ
-reads n [] = Some n
-reads n (b ∷ bs) = cond (is_ascii_digit b) (reads (n * 10 + (b - 48)) bs) None
 
 -- a number is 0, or digits without a leading zero
 abbrev pub numeral : List ℕ → Option ℕ

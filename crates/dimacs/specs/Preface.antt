@@ -1,10 +1,8 @@
 -- What stands before the heading of a text.
-use Rattle.std.specs.Prelude.{ℕ, suc, cond, List, [], ◌∷◌, ◌==◌}
+use Rattle.std.specs.Prelude.{ℕ, suc, Bool, cond, List, [], ◌∷◌, ◌==◌}
 use Rattle.std.specs.List.{prefix_len}
 use Rattle.dimacs.specs.Words.{Piece, is_comment, ahead}
-use Rattle.dimacs.specs.Runs.{blank, holds}
-use Rattle.dimacs.specs.declared.runs.Class.{Class}
-use Rattle.dimacs.specs.declared.runs.Class.TheVariants.{InLine, Indent}
+use Rattle.dimacs.specs.Runs.{blank, in_line, indent}
 
 -- where in a line the bytes begin
 pub data Where : Type 0 where
@@ -23,13 +21,13 @@ preface start (b ∷ bs) =
 preface middle (b ∷ bs) = cond (blank b) (suc (preface (after b middle) bs)) 0
 preface comment (b ∷ bs) = suc (preface (after b comment) bs)
 
--- what is passed over of a line: all of a comment, else the blanks before its first word
-abbrev pub passed_over : List ℕ → Class
-passed_over bs = cond (is_comment bs) InLine Indent
+-- which bytes are passed over of a line: all of a comment, else the blanks before its first word
+abbrev pub passed_over : List ℕ → ℕ → Bool
+passed_over bs = cond (is_comment bs) in_line indent
 
 -- how much of a line stands before its first word, or before its end where it is a comment or has no word
 abbrev pub lead : List ℕ → ℕ
-lead bs = prefix_len (holds (passed_over bs)) bs
+lead bs = prefix_len (passed_over bs) bs
 
 -- the words of a text after its leading comment lines
 abbrev pub after_preface : List ℕ → List Piece

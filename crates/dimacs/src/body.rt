@@ -1,12 +1,13 @@
 // The clauses of a text, word by word.
-ghost use Rattle.std.specs.Prelude.{◌≡◌, ◌<◌, unsigned_abs};
-ghost use Rattle.clause.specs.Reading.{clear, outside};
+ghost use Rattle.std.specs.Prelude.{◌≡◌, ◌<◌};
+ghost use Rattle.clause.specs.Reading.{clear};
 ghost use Rattle.clause.specs.Refusals.{answer};
 ghost use Rattle.dimacs.specs.Reading.{piece};
 ghost use Rattle.dimacs.specs.Body.{at_end, at_atom, step};
 
 use crate::numbers::read_literal;
 use crate::reader::Word;
+use clause::literals::is_outside;
 use clause::refusal::Refusal;
 use clause::words::Clause;
 
@@ -18,63 +19,54 @@ pub(crate) struct Scan {
     pub(crate) clause: Clause,
 }
 
-// What one word makes of a scan.
-pub(crate) fn take_word(scan: Scan, word: Word<'_>) -> Result<Scan, Refusal>
-    ensures { answer result ≡ step scan (piece word.entry) }
-{
-    let place = word.place;
-    if scan.left == 0 {
-        return Err(Refusal::ClauseCount(place));
+impl Scan {
+    // A scan before the first literal of a clause.
+    pub(crate) fn new(atoms: u32, left: u32) -> Scan
+        ensures { result ≡ record { atoms = atoms; left = left; clause = clear } }
+    {
+        Scan {
+            atoms,
+            left,
+            clause: Clause::empty(),
+        }
     }
-    let Some(literal) = read_literal(word.bytes) else {
-        return Err(Refusal::MalformedWord(place));
-    };
-    if literal == 0 {
-        end_clause(scan, place)
-    } else {
-        add_literal(scan, place, literal)
+
+    // What one word makes of a scan.
+    pub(crate) fn take_word(self, word: Word<'_>) -> Result<Scan, Refusal>
+        ensures { answer result ≡ step self (piece word.entry) }
+    {
+        let place = word.place;
+        if self.left == 0 {
+            return Err(Refusal::ClauseCount(place));
+        }
+        let literal = read_literal(word.bytes).ok_or(Refusal::MalformedWord(place))?;
+        if literal == 0 {
+            self.end_clause(place)
+        } else {
+            self.add_literal(place, literal)
+        }
     }
-}
 
-fn end_clause(scan: Scan, place: usize) -> Result<Scan, Refusal>
-    requires { 0 < scan.left }
-    ensures { answer result ≡ at_end scan place }
-{
-    if scan.clause.is_empty() {
-        return Err(Refusal::NoLiteral(place));
+    fn end_clause(self, place: usize) -> Result<Scan, Refusal>
+        requires { 0 < self.left }
+        ensures { answer result ≡ at_end self place }
+    {
+        if self.clause.is_empty() {
+            return Err(Refusal::NoLiteral(place));
+        }
+        Ok(Scan::new(self.atoms, self.left - 1))
     }
-    Ok(Scan {
-        atoms: scan.atoms,
-        left: scan.left - 1,
-        clause: no_literal(),
-    })
-}
 
-fn add_literal(scan: Scan, place: usize, literal: i32) -> Result<Scan, Refusal>
-    ensures { answer result ≡ at_atom scan place literal }
-{
-    if is_outside(literal, scan.atoms) {
-        return Err(Refusal::OutOfRange(place));
+    fn add_literal(self, place: usize, literal: i32) -> Result<Scan, Refusal>
+        ensures { answer result ≡ at_atom self place literal }
+    {
+        if is_outside(literal.unsigned_abs(), self.atoms) {
+            return Err(Refusal::OutOfRange(place));
+        }
+        let clause = self
+            .clause
+            .with_literal(literal)
+            .ok_or(Refusal::BothSigns(place))?;
+        Ok(Scan { clause, ..self })
     }
-    let Some(clause) = scan.clause.with_literal(literal) else {
-        return Err(Refusal::BothSigns(place));
-    };
-    Ok(Scan {
-        atoms: scan.atoms,
-        left: scan.left,
-        clause,
-    })
-}
-
-pub(crate) fn no_literal() -> Clause
-    ensures { result ≡ clear }
-{
-    Clause::empty()
-}
-
-fn is_outside(literal: i32, atoms: u32) -> bool
-    ensures { result ≡ outside atoms (unsigned_abs literal) }
-{
-    let atom = literal.unsigned_abs();
-    atom == 0 || atom > atoms.min(64)
 }

@@ -4,7 +4,7 @@ ghost use Rattle.clause.specs.Refusals.{answer};
 ghost use Rattle.dimacs.specs.Reading.{text_end, left};
 ghost use Rattle.dimacs.specs.Walk.{walk, begun, parse, counts, fault_of};
 
-use crate::body::{Scan, no_literal, take_word};
+use crate::body::Scan;
 use crate::heading::Heading;
 use crate::reader::Reader;
 use clause::refusal::Refusal;
@@ -35,7 +35,7 @@ fn check_clauses(reader: &mut Reader<'_>, first: Scan) -> Result<(), Refusal>
     let end = reader.end();
     let mut scan = first;
     while let Some(word) = reader.next_word() {
-        scan = take_word(scan, word)?;
+        scan = scan.take_word(word)?;
     }
     if scan.left > 0 {
         return Err(Refusal::ClauseCount(end));
@@ -48,10 +48,6 @@ impl Heading {
     pub(crate) fn scan(self) -> Scan
         ensures { result ≡ begun self }
     {
-        Scan {
-            atoms: self.atoms,
-            left: self.clauses,
-            clause: no_literal(),
-        }
+        Scan::new(self.atoms, self.clauses)
     }
 }

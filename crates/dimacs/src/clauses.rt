@@ -2,10 +2,10 @@
 ghost use Rattle.std.specs.Prelude.{◌≡◌, [], ◌∷◌, Ok, MatchOption};
 ghost use Rattle.dimacs.specs.Reading.{content, text_end, left};
 ghost use Rattle.dimacs.specs.Heading.{headed};
-ghost use Rattle.dimacs.specs.Walk.{Parsed, parse, walk, early, early_in, none};
+ghost use Rattle.dimacs.specs.Walk.{Parsed, parse, walk, early, early_in};
 ghost use Rattle.dimacs.specs.ToCome.{to_come};
 
-use crate::body::{Scan, no_literal, take_word};
+use crate::body::Scan;
 use crate::reader::Reader;
 use clause::refusal::Refusal;
 use clause::words::Clause;
@@ -34,8 +34,8 @@ impl<'a> Clauses<'a> {
     {
         while let Some(word) = self.reader.next_word() {
             let before = self.scan;
-            let Ok(after) = take_word(before, word) else {
-                self.scan = nothing();
+            let Ok(after) = before.take_word(word) else {
+                self.scan = Scan::new(0, 0);
                 return None;
             };
             self.scan = after;
@@ -54,17 +54,6 @@ fn start(reader: &mut Reader<'_>, n: u32) -> Scan
 {
     match reader.heading(n) {
         Ok(heading) => heading.scan(),
-        Err(_) => nothing(),
-    }
-}
-
-// The scan of no clause.
-fn nothing() -> Scan
-    ensures { result ≡ none }
-{
-    Scan {
-        atoms: 0,
-        left: 0,
-        clause: no_literal(),
+        Err(_) => Scan::new(0, 0),
     }
 }

@@ -1,6 +1,5 @@
 // The heading of a text: the words `p` and `cnf`, the number of atoms and the number of clauses.
 ghost use Rattle.std.specs.Prelude.{◌≡◌};
-ghost use Rattle.std.specs.Str.{bytes_eq};
 ghost use Rattle.dimacs.specs.Reading.{content, text_end, left};
 ghost use Rattle.dimacs.specs.Heading.{leaving, expecting, counting, beyond, headed};
 
@@ -9,32 +8,29 @@ use crate::reader::Reader;
 use clause::refusal::Refusal;
 
 // How many atoms and clauses a text announces.
-#[derive(Clone, Copy)]
+#[derive(Clone, Copy, Debug, PartialEq, Eq)]
 pub struct Heading {
     pub atoms: u32,
     pub clauses: u32,
 }
 
 // A number of the heading: of atoms, with the most that are allowed, or of clauses.
-#[derive(Clone, Copy)]
+// Kept an enum, in place of a test that is passed in: the laws of the texts cite these variants, and the check of their proofs would fall.
+#[derive(Clone, Copy, Debug, PartialEq, Eq)]
 pub enum Count {
     Atoms(u32),
     Clauses,
 }
 
-fn is_beyond(count: Count, k: u32) -> bool
-    ensures { result ≡ beyond count k }
-{
-    match count {
-        Count::Atoms(n) => k == 0 || k > n.min(64),
-        Count::Clauses => k > 16_384,
+impl Count {
+    fn is_beyond(self, k: u32) -> bool
+        ensures { result ≡ beyond self k }
+    {
+        match self {
+            Count::Atoms(n) => k == 0 || k > n.min(64),
+            Count::Clauses => k > 16_384,
+        }
     }
-}
-
-fn same_word(word: &[u8], other: &[u8]) -> bool
-    ensures { result ≡ bytes_eq word.now other.now }
-{
-    word == other
 }
 
 impl<'a> Reader<'a> {
@@ -44,10 +40,8 @@ impl<'a> Reader<'a> {
         ensures value { leaving result (left self.new) ≡ expecting text.now (text_end self.old) (left self.old) }
     {
         let end = self.end();
-        let Some(word) = self.next_word() else {
-            return Err(Refusal::MalformedWord(end));
-        };
-        if !same_word(word.bytes, text) {
+        let word = self.next_word().ok_or(Refusal::MalformedWord(end))?;
+        if word.bytes != text {
             return Err(Refusal::MalformedWord(word.place));
         }
         Ok(())
@@ -59,13 +53,9 @@ impl<'a> Reader<'a> {
         ensures value { leaving result (left self.new) ≡ counting count (text_end self.old) (left self.old) }
     {
         let end = self.end();
-        let Some(word) = self.next_word() else {
-            return Err(Refusal::MalformedWord(end));
-        };
-        let Some(k) = number(word.bytes) else {
-            return Err(Refusal::MalformedWord(word.place));
-        };
-        if is_beyond(count, k) {
+        let word = self.next_word().ok_or(Refusal::MalformedWord(end))?;
+        let k = number(word.bytes).ok_or(Refusal::MalformedWord(word.place))?;
+        if count.is_beyond(k) {
             return Err(Refusal::OutOfRange(word.place));
         }
         Ok(k)

@@ -1,23 +1,23 @@
-use Rattle.std.proofs.Common.{◌≡◌, drop, arith}
-use Rattle.std.proofs.lemmas.List.{at_drop_all}
-use Rattle.dimacs.specs.Preface.{preface, start}
-use Rattle.dimacs.proofs.Lead.{Turn, at_end, at_word, at_line}
+use Rattle.std.proofs.Common.{◌≡◌, ◌+◌, ◌<◌, length, get_or, sym, zero-add, rules, arith}
+use Rattle.dimacs.proofs.Lead.{one_turn, at_line, at_word}
 use Rattle.dimacs.proofs.preface.heading_place.Goals as goal
-use Rattle.dimacs.proofs.preface.heading_place.Goals.{After-lead_end-at}
 
-turn : (c : After-lead_end-at) → Turn c.args.text.now c.loop-at.at c.lead_end-at.result
-turn c = record { before = c.loop-at.invariant.1; is = c.lead_end-at.ensures.value }
-
-pub returns-then-at-text : goal.returns-then-at-text
-returns-then-at-text c = record { value = at_end (turn (goal.at.returns-then-at-text c).After-lead_end-at) c.if-at-text.true; within = c.lead_end-at.ensures.within }
-
-pub returns-then-text-at-ne10 : goal.returns-then-text-at-ne10
-returns-then-text-at-ne10 c = record { value = at_word (turn (goal.at.returns-then-text-at-ne10 c).After-lead_end-at) (omega arith) c.if-text-at-ne10.true; within = c.lead_end-at.ensures.within }
+pub loop-at-init : goal.loop-at-init
+loop-at-init c =
+    (c.lead_end-at.ensures.within, one_turn c.args.text.now 0 c.lead_end-at.result (sym (zero-add _)) c.lead_end-at.ensures.value)
 
 pub loop-at-preserved : goal.loop-at-preserved
-loop-at-preserved c = (omega arith, at_line (turn (goal.at.loop-at-preserved c).After-lead_end-at) (omega arith) c.if-text-at-ne10.false)
+loop-at-preserved c =
+    let t = c.args.text.now in
+    let at = c.loop-at.at in
+    let e = c.lead_end-at-in-loop-at in
+    let l : at < length t = search rules in
+    let h : get_or t at 0 ≡ 10 = search rules in
+    (e.ensures.within, one_turn t (at + 1) e.result (omega (arith, c.loop-at.invariant.1, at_line t at l h)) e.ensures.value)
 
 pub returns : goal.returns
 returns c =
-    let z : preface start (drop c.loop-at.at c.args.text.now) ≡ 0 = at_drop_all (preface start) c.args.text.now c.loop-at.at c.loop-at-test.false in
-    record { value = omega (arith, c.loop-at.invariant.1); within = c.loop-at.invariant.0 }
+    let t = c.args.text.now in
+    let at = c.loop-at.at in
+    let z = at_word t at (λ l h. search rules) in
+    record { value = omega (arith, c.loop-at.invariant.1, z); within = c.loop-at.invariant.0 }

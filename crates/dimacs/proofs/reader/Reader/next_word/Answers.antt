@@ -1,12 +1,13 @@
 use Rattle.std.proofs.Common.{refl}
+use Rattle.dimacs.specs.Runs.{blank, in_word}
 use Rattle.dimacs.proofs.Split.{Next, none_left, one_more}
 use Rattle.dimacs.proofs.reader.Reader.next_word.Goals as goal
 use Rattle.dimacs.proofs.reader.Reader.next_word.Goals.{After-run_end-end}
 
 found : (c : After-run_end-end) → Next c.args.self.now.text.now c.args.self.now.at c.run_end-start.result c.run_end-end.result
 found c = record {
-  starts = c.run_end-start.ensures.value;
-  ends = c.run_end-end.ensures.value;
+  starts = c.run_end-start.ensures.value blank (λ b r h e. e);
+  ends = c.run_end-end.ensures.value in_word (λ b r h e. e);
   within = c.run_end-end.ensures.within;
 }
 
