@@ -7,28 +7,20 @@ ghost use Rattle.dimacs_law.specs.Examples.{Reads, Faults};
 ghost use Rattle.dimacs_law.specs.Grammar.{TextsAreSpelled};
 
 // The words of a text are the one way to cut it at its blanks.
-pub fn words_stand() -> u8
+pub fn words_stand()
     ensures { WordsAreTheCut }
-{
-    0
-}
+{}
 
 // What is passed over before the heading are comment lines and blanks.
-pub fn preface_stands() -> u8
+pub fn preface_stands()
     ensures { PrefaceIsLines }
-{
-    0
-}
+{}
 
 // A text is accepted exactly where its words spell a heading and its clauses, and it writes those.
-pub fn texts_stand() -> u8
+pub fn texts_stand()
     ensures { TextsAreSpelled }
-{
-    0
-}
+{}
 
-pub fn examples_stand() -> u8
+pub fn examples_stand()
     ensures { Reads × Faults }
-{
-    0
-}
+{}
