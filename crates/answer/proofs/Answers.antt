@@ -1,7 +1,8 @@
 -- What the answer call prints, step by step.
-use Rattle.std.proofs.Common.{◌≡◌, ℕ, ◌≤◌, List, [], length, Ok, Err, Result, sym, refl, ap, ◌∙◌, arith}
+use Rattle.std.proofs.Common.{◌≡◌, ℕ, ◌≤◌, List, [], length, Ok, Err, Result, MatchResult, sym, refl, ap, ◌∙◌, subst, arith}
 use Rattle.std.proofs.lemmas.Bool.{le-ltb}
-use Rattle.clause.specs.Refusals.{Told}
+use Rattle.clause.specs.declared.refusal.Refusal.{Refusal}
+use Rattle.clause.specs.Refusals.{Told, told}
 use Rattle.dimacs.specs.declared.heading.Heading.{Heading}
 use Rattle.dimacs.specs.Walk.{Parsed, parse, counts}
 use Rattle.store.specs.declared.entry.Entry.{Entry}
@@ -10,15 +11,13 @@ use Rattle.session.specs.declared.search.Search.{Search}
 use Rattle.session.specs.Steps.{After}
 use Rattle.session.specs.Calls.{opened, load}
 use Rattle.answer.specs.Answered.{answered, parsed_as, loaded, faulted, vacant}
-use Rattle.answer.specs.Printed.{wrote}
 
--- the buffer out after the text t was printed from its start: cur, and the printed length r
-pub record Shows (out : List ℕ) (t : List ℕ) (r : ℕ) (cur : List ℕ) : Type 0 where
-  pub place : r ≡ length t
-  pub after : cur ≡ wrote out 0 t
+-- what a step tells, a text or a refusal that prints as x, told of an equal text
+pub moved : (r : Result (List ℕ) Refusal) (x y : List ℕ) → x ≡ y → MatchResult r (λ t. t ≡ x) (λ e. faulted (told e) ≡ x) → MatchResult r (λ t. t ≡ y) (λ e. faulted (told e) ≡ y)
+moved r x y e h = subst (λ z. MatchResult r (λ t. t ≡ z) (λ f. faulted (told f) ≡ z)) e h
 
-pub shows_as : (out t u : List ℕ) (r : ℕ) (cur : List ℕ) → t ≡ u → r ≡ length t → cur ≡ wrote out 0 t → Shows out u r cur
-shows_as out t u r cur e p q = record { place = p ∙ ap length e; after = q ∙ ap (wrote out 0) e }
+pub refused : (r : Result (List ℕ) Refusal) (f : Refusal) (y : List ℕ) → r ≡ Err f → faulted (told f) ≡ y → MatchResult r (λ t. t ≡ y) (λ e. faulted (told e) ≡ y)
+refused r f y e h = subst (λ z. MatchResult z (λ t. t ≡ y) (λ g. faulted (told g) ≡ y)) (sym e) h
 
 pub vacant_is : (es : List Entry) (p : ℕ) → es ≡ [] → p ≡ 1024 → ◌≡◌ {A = Held} (record { entries = es; places = p }) vacant
 vacant_is es p e q = rw (e, q)

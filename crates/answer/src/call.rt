@@ -1,11 +1,12 @@
 // The answer call over slices.
-ghost use Rattle.std.specs.Prelude.{◌≡◌, ℕ, ◌+◌, ◌<◌, ◌≤◌, [], length, MatchResult, nat_lt};
+ghost use Rattle.std.specs.Prelude.{◌≡◌, ℕ, ◌<◌, ◌≤◌, [], length, MatchResult};
 ghost use Rattle.clause.specs.Refusals.{told, refused};
 ghost use Rattle.session.specs.Calls.{run, opened, load};
-ghost use Rattle.answer.specs.Answered.{answered, ran, loaded, vacant};
+ghost use Rattle.answer.specs.Answered.{answered, faulted, ran, loaded, vacant};
 ghost use Rattle.answer.specs.Printed.{wrote};
 
-use crate::report::{put_refusal, put_report};
+use crate::report::{refusal_text, report_text};
+use crate::text::Text;
 use clause::refusal::Refusal;
 use dimacs::check::check;
 use row_store::ordered::RowStore;
@@ -30,55 +31,47 @@ fn print_answer(text: &[u8], out: &mut [u8]) -> usize
     ensures after { out.new ≡ wrote out.old 0 (answered text.now) }
     ensures bound { result ≤ 512 }
 {
-    if is_too_large(text.len()) {
-        return put_refusal(out, Refusal::TooLarge);
+    let answer = decide(text).unwrap_or_else(|e| refusal_text(e));
+    let bytes = answer.as_bytes();
+    out[..bytes.len()].copy_from_slice(bytes);
+    bytes.len()
+}
+
+// How the text is decided, or why it is refused.
+fn decide(text: &[u8]) -> Result<Text, Refusal>
+    ensures { MatchResult result (λ t. t ≡ answered text.now) (λ e. faulted (told e) ≡ answered text.now) }
+{
+    if text.len() > 32_768 {
+        return Err(Refusal::TooLarge);
     }
-    match check(text, 64) {
-        Ok(heading) => decide(text, heading.atoms, out),
-        Err(e) => put_refusal(out, e),
-    }
+    let heading = check(text, 64)?;
+    decide_checked(text, heading.atoms)
 }
 
 // Opens a session with so many atoms over 1,024 local places, loads the text and runs.
-fn decide(text: &[u8], atoms: u32, out: &mut [u8]) -> usize
-    requires { (512 ≤ length out.old) × (atoms ≤ 64) }
-    ensures place { result ≡ length (loaded atoms (load vacant (opened atoms vacant) text.now)) }
-    ensures after { out.new ≡ wrote out.old 0 (loaded atoms (load vacant (opened atoms vacant) text.now)) }
-    ensures bound { result ≤ 512 }
+fn decide_checked(text: &[u8], atoms: u32) -> Result<Text, Refusal>
+    requires { atoms ≤ 64 }
+    ensures { MatchResult result (λ t. t ≡ loaded atoms (load vacant (opened atoms vacant) text.now)) (λ e. faulted (told e) ≡ loaded atoms (load vacant (opened atoms vacant) text.now)) }
 {
     let mut slots = [Slot::blank(); 1024];
     let mut seats = [0u16; 1024];
     let mut store = RowStore::new(&mut slots, &mut seats);
     let mut session = Session::open(atoms, &mut store);
-    match session.load(text) {
-        Ok(_) => print_run(&mut session, atoms, out),
-        Err(e) => put_refusal(out, e),
-    }
+    session.load(text)?;
+    run_loaded(&mut session, atoms)
 }
 
-// Runs and prints how the run ended.
-fn print_run<S: ClauseStore>(session: &mut Session<'_, S>, atoms: u32, out: &mut [u8]) -> usize
-    requires { (512 ≤ length out.old) × (atoms ≤ 64) }
-    ensures place { result ≡ length (ran atoms (run (S.held session.old.store.now) session.old.search 2000000)) }
-    ensures after { out.new ≡ wrote out.old 0 (ran atoms (run (S.held session.old.store.now) session.old.search 2000000)) }
-    ensures bound { result ≤ 512 }
+// Runs, and tells how the run ended.
+fn run_loaded<S: ClauseStore>(session: &mut Session<'_, S>, atoms: u32) -> Result<Text, Refusal>
+    requires { atoms ≤ 64 }
+    ensures { MatchResult result (λ t. t ≡ ran atoms (run (S.held session.old.store.now) session.old.search 2000000)) (λ e. faulted (told e) ≡ ran atoms (run (S.held session.old.store.now) session.old.search 2000000)) }
 {
-    match session.run(2_000_000) {
-        Ok(report) => put_report(
-            out,
-            atoms,
-            &session.search(),
-            report.outcome,
-            session.size(),
-            session.places(),
-        ),
-        Err(e) => put_refusal(out, e),
-    }
-}
-
-// Whether a text of so many bytes is refused unread.
-fn is_too_large(bytes: usize) -> bool
-    ensures { result ≡ nat_lt 32768 bytes }
-{
-    bytes > 32_768
+    let report = session.run(2_000_000)?;
+    Ok(report_text(
+        atoms,
+        &session.search(),
+        report.outcome,
+        session.size(),
+        session.places(),
+    ))
 }

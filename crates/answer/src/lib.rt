@@ -3,5 +3,5 @@
 
 pub mod call;
 pub mod host;
-mod print;
 mod report;
+mod text;

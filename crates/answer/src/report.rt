@@ -1,11 +1,11 @@
-// Prints how a session ended.
-ghost use Rattle.std.specs.Prelude.{◌≡◌, ℕ, ◌+◌, ◌*◌, ◌/◌, ◌<◌, ◌≤◌, length};
+// The texts of refusals and of runs.
+ghost use Rattle.std.specs.Prelude.{◌≡◌, ℕ, ◌+◌, ◌≤◌, ◌++◌, length};
 ghost use Rattle.clause.specs.Refusals.{told};
 ghost use Rattle.session.specs.Reports.{said};
 ghost use Rattle.answer.specs.Answered.{percent, counted, valued, reported, faulted, status};
-ghost use Rattle.answer.specs.Printed.{wrote};
+ghost use Rattle.answer.specs.Printed.{values_line};
 
-use crate::print::{put, put_counts, put_fault, put_values};
+use crate::text::Text;
 use clause::refusal::Refusal;
 use session::report::Outcome;
 use session::search::Search;
@@ -20,16 +20,16 @@ pub(crate) fn percent_of(size: u16, places: u16) -> u64
     (200 * u64::from(size) + u64::from(places)) / (2 * u64::from(places))
 }
 
-// Writes why a text was refused.
-pub(crate) fn put_refusal(out: &mut [u8], refusal: Refusal) -> usize
-    requires { 512 ≤ length out.old }
-    ensures place { result ≡ length (faulted (told refusal)) }
-    ensures after { out.new ≡ wrote out.old 0 (faulted (told refusal)) }
-    ensures bound { result ≤ 512 }
+// Why a text was refused: the refusal's number and place.
+pub(crate) fn refusal_text(refusal: Refusal) -> Text
+    ensures { result ≡ faulted (told refusal) }
 {
-    let number = u64::from(refusal.number());
-    let place = refusal.place() as u64;
-    put_fault(out, 0, number, place)
+    let mut text = Text::new();
+    text.put(b"e");
+    text.field(u64::from(refusal.number()));
+    text.field(refusal.place() as u64);
+    text.put(b"\n");
+    text
 }
 
 // The line of a verdict.
@@ -44,46 +44,46 @@ fn verdict(outcome: Outcome) -> &'static [u8]
     }
 }
 
-fn put_search(out: &mut [u8], at: usize, search: &Search, size: u16, places: u16) -> usize
-    requires { at + 86 ≤ length out.old }
-    ensures place { result ≡ at + length (counted search.now size places) }
-    ensures after { out.new ≡ wrote out.old at (counted search.now size places) }
-    ensures bound { result ≤ at + 86 }
+// The line of a valuation.
+fn put_values(text: &mut Text, atoms: u32, valuation: u64)
+    requires { (length text.old ≤ 16) × (atoms ≤ 64) }
+    ensures value { text.new ≡ text.old ++ values_line atoms valuation }
+    ensures bound { length text.new ≤ length text.old + 260 }
 {
-    let given = u64::from(search.given);
-    let derived = u64::from(search.made.derivations);
-    let set = u64::from(search.made.settings);
-    put_counts(out, at, given, derived, set, percent_of(size, places))
+    text.put(b"v");
+    text.literals(atoms, valuation);
+    text.put(b" 0\n");
 }
 
-// Writes the valuation under a satisfiable verdict, nothing under another.
-fn put_valued(out: &mut [u8], at: usize, atoms: u32, search: &Search, outcome: Outcome) -> usize
-    requires { (at + 260 ≤ length out.old) × (atoms ≤ 64) }
-    ensures place { result ≡ at + length (valued atoms search.now (said outcome)) }
-    ensures after { out.new ≡ wrote out.old at (valued atoms search.now (said outcome)) }
-    ensures bound { result ≤ at + 260 }
+// The line of counts: given entries, derivations, settings, and how full the store is.
+fn put_counts(text: &mut Text, search: &Search, size: u16, places: u16)
+    requires { length text.old ≤ 276 }
+    ensures { text.new ≡ text.old ++ counted search.now size places }
 {
-    match outcome {
-        Outcome::Satisfiable => put_values(out, at, atoms, search.valuation),
-        _ => put(out, at, b""),
-    }
+    text.put(b"r");
+    text.field(u64::from(search.given));
+    text.field(u64::from(search.made.derivations));
+    text.field(u64::from(search.made.settings));
+    text.field(percent_of(size, places));
+    text.put(b"\n");
 }
 
-// Writes how a run ended: the verdict, under satisfiable the valuation, and the counts.
-pub(crate) fn put_report(
-    out: &mut [u8],
+// How a run ended: the verdict, under satisfiable the valuation, and the counts.
+pub(crate) fn report_text(
     atoms: u32,
     search: &Search,
     outcome: Outcome,
     size: u16,
     places: u16,
-) -> usize
-    requires { (512 ≤ length out.old) × (atoms ≤ 64) }
-    ensures place { result ≡ length (reported atoms search.now (said outcome) size places) }
-    ensures after { out.new ≡ wrote out.old 0 (reported atoms search.now (said outcome) size places) }
-    ensures bound { result ≤ 512 }
+) -> Text
+    requires { atoms ≤ 64 }
+    ensures { result ≡ reported atoms search.now (said outcome) size places }
 {
-    let a = put(out, 0, verdict(outcome));
-    let b = put_valued(out, a, atoms, search, outcome);
-    put_search(out, b, search, size, places)
+    let mut text = Text::new();
+    text.put(verdict(outcome));
+    if let Outcome::Satisfiable = outcome {
+        put_values(&mut text, atoms, search.valuation);
+    }
+    put_counts(&mut text, search, size, places);
+    text
 }
