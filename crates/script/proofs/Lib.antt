@@ -1,4 +1,3 @@
-pub mod Capped
 pub mod Gathered
 pub mod Phrases
 pub mod Cuts

@@ -1,12 +1,7 @@
 -- Numbers and literals as words of a script write them.
-use Rattle.std.specs.Prelude.{ℕ, ◌+◌, ◌-◌, ◌*◌, ◌^◌, min, Bool, true, false, cond, List, [], ◌∷◌, length, ℤ, pos, neg_ℤ, Some, None, Option, ◌==◌}
+use Rattle.std.specs.Prelude.{ℕ, ◌-◌, ◌^◌, min, Bool, true, false, cond, List, [], ◌∷◌, length, ℤ, pos, neg_ℤ, None, Option, ◌==◌}
 use Rattle.std.specs.Option.{option_map}
-use Rattle.std.specs.Char.{is_ascii_digit}
-
--- the number that digits write after n, or nothing where a byte is no digit
-abbrev pub reads : ℕ → List ℕ → Option ℕ
-reads n [] = Some n
-reads n (b ∷ bs) = cond (is_ascii_digit b) (reads (n * 10 + (b - 48)) bs) None
+pub use Rattle.digits.specs.Digits.{reads}
 
 -- what lies beyond the range is read as the largest
 abbrev pub capped : Option ℕ → Option ℕ

@@ -1,20 +1,8 @@
-ghost use Rattle.std.specs.Prelude.{◌≡◌};
-ghost use Rattle.std.specs.Option.{option_map};
-ghost use Rattle.script.specs.Numbers.{digits, number, literal, signed};
+ghost use Rattle.std.specs.Prelude.{◌≡◌, true, false};
+ghost use Rattle.script.specs.Numbers.{number, literal, signed};
 
-// The number that the digits write, or the largest of its type where it is beyond; nothing where a byte is no digit.
-fn digits(word: &[u8]) -> Option<u32>
-    ensures { result ≡ digits word.now }
-{
-    let mut n: u32 = 0;
-    for b in word {
-        if !b.is_ascii_digit() {
-            return None;
-        }
-        n = n.saturating_mul(10).saturating_add(u32::from(*b - b'0'));
-    }
-    Some(n)
-}
+// What lies beyond the range of a number is read as the largest.
+const MOST: u32 = u32::MAX;
 
 // A number has one digit at least.
 pub fn number(word: &str) -> Option<u32>
@@ -23,35 +11,21 @@ pub fn number(word: &str) -> Option<u32>
     if word.is_empty() {
         return None;
     }
-    digits(word.as_bytes())
+    digits::number::<MOST>(word.as_bytes())
 }
 
-// The literal of that sign and atom, or the farthest from 0 where it is beyond.
-fn signed(negative: bool, atom: u32) -> i32
-    ensures { result ≡ signed negative atom }
+// The negative literal of an atom, or the farthest from 0 where it is beyond.
+fn negative(atom: u32) -> i32
+    ensures { result ≡ signed true atom }
 {
-    if negative {
-        if atom >= 0x8000_0000 {
-            i32::MIN
-        } else {
-            -(atom as i32)
-        }
-    } else {
-        if atom > 0x7fff_ffff {
-            i32::MAX
-        } else {
-            atom as i32
-        }
-    }
+    0i32.saturating_sub_unsigned(atom)
 }
 
-fn with_sign(negative: bool, atom: Option<u32>) -> Option<i32>
-    ensures { result ≡ option_map (signed negative) atom }
+// The positive literal of an atom, or the farthest from 0 where it is beyond.
+fn positive(atom: u32) -> i32
+    ensures { result ≡ signed false atom }
 {
-    match atom {
-        Some(a) => Some(signed(negative, a)),
-        None => None,
-    }
+    0i32.saturating_add_unsigned(atom)
 }
 
 // A number that may have one minus before it.
@@ -59,7 +33,7 @@ pub fn literal(word: &str) -> Option<i32>
     ensures { result ≡ literal word.now }
 {
     match word.strip_prefix('-') {
-        Some(rest) => with_sign(true, number(rest)),
-        None => with_sign(false, number(word)),
+        Some(rest) => number(rest).map(negative),
+        None => number(word).map(positive),
     }
 }

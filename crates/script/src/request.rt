@@ -1,6 +1,6 @@
 ghost use Rattle.std.specs.Prelude.{◌≡◌, map, IfOk, vec_items};
 ghost use Rattle.std.specs.Option.{option_map};
-ghost use Rattle.script.specs.Requests.{keyword, called, meant, lends, opens, adds, ran, walked, alone, nothing, literals, asks_for, asks};
+ghost use Rattle.script.specs.Requests.{keyword, called, meant, lends, opens, adds, alone, nothing, literals, asks_for, asks};
 
 use crate::number::{literal, number};
 use std::alloc::{AllocError, Global};
@@ -60,13 +60,10 @@ fn lent(atoms: Option<u32>, places: Option<u32>) -> Option<Request>
 fn opening(rest: &[&str]) -> Option<Request>
     ensures { meant result ≡ opens (map (λ x. x.now) rest.now) }
 {
-    let [atoms, places, store] = rest else {
-        return None;
-    };
-    if *store != "row" {
-        return None;
+    match rest {
+        [atoms, places, store] if *store == "row" => lent(number(atoms), number(places)),
+        _ => None,
     }
-    lent(number(atoms), number(places))
 }
 
 // The literals of the words, where all are literals.
@@ -75,10 +72,10 @@ fn read_literals(heap: Global, words: &[&str]) -> Result<Option<Vec<i32>>, Alloc
 {
     let mut literals = Vec::new(heap);
     for w in words {
-        match literal(w) {
-            Some(l) => literals.push(l)?,
-            None => return Ok(None),
-        }
+        let Some(l) = literal(w) else {
+            return Ok(None);
+        };
+        literals.push(l)?;
     }
     Ok(Some(literals))
 }
@@ -86,37 +83,17 @@ fn read_literals(heap: Global, words: &[&str]) -> Result<Option<Vec<i32>>, Alloc
 fn addition(heap: Global, rest: &[&str]) -> Result<Option<Request>, AllocError>
     ensures { IfOk result (λ q. meant q ≡ adds (map (λ x. x.now) rest.now)) }
 {
-    match read_literals(heap, rest)? {
-        Some(literals) => Ok(Some(Request::Ask(Call::Add(literals)))),
-        None => Ok(None),
-    }
+    let literals = read_literals(heap, rest)?;
+    Ok(literals.map(|literals| Request::Ask(Call::Add(literals))))
 }
 
 // The number that stands alone.
 fn budget(rest: &[&str]) -> Option<u32>
     ensures { result ≡ alone (map (λ x. x.now) rest.now) }
 {
-    let [word] = rest else {
-        return None;
-    };
-    number(word)
-}
-
-fn running(budget: Option<u32>) -> Option<Request>
-    ensures { meant result ≡ option_map ran budget }
-{
-    match budget {
-        Some(b) => Some(Request::Ask(Call::Run(b))),
-        None => None,
-    }
-}
-
-fn walking(budget: Option<u32>) -> Option<Request>
-    ensures { meant result ≡ option_map walked budget }
-{
-    match budget {
-        Some(b) => Some(Request::Ask(Call::Walk(b))),
-        None => None,
+    match rest {
+        [word] => number(word),
+        _ => None,
     }
 }
 
@@ -124,11 +101,7 @@ fn walking(budget: Option<u32>) -> Option<Request>
 fn bare(call: Call, rest: &[&str]) -> Option<Request>
     ensures { meant result ≡ nothing (called call) (map (λ x. x.now) rest.now) }
 {
-    if rest.is_empty() {
-        Some(Request::Ask(call))
-    } else {
-        None
-    }
+    rest.is_empty().then_some(Request::Ask(call))
 }
 
 fn asked(heap: Global, verb: Option<Verb>, rest: &[&str]) -> Result<Option<Request>, AllocError>
@@ -137,8 +110,8 @@ fn asked(heap: Global, verb: Option<Verb>, rest: &[&str]) -> Result<Option<Reque
     match verb {
         Some(Verb::Open) => Ok(opening(rest)),
         Some(Verb::Add) => addition(heap, rest),
-        Some(Verb::Run) => Ok(running(budget(rest))),
-        Some(Verb::Walk) => Ok(walking(budget(rest))),
+        Some(Verb::Run) => Ok(budget(rest).map(|b| Request::Ask(Call::Run(b)))),
+        Some(Verb::Walk) => Ok(budget(rest).map(|b| Request::Ask(Call::Walk(b)))),
         Some(Verb::Show) => Ok(bare(Call::Show, rest)),
         Some(Verb::Counts) => Ok(bare(Call::Counts, rest)),
         None => Ok(None),

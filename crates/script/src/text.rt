@@ -54,10 +54,7 @@ fn spaced(heap: Global, words: &[&str]) -> Result<String, AllocError>
 fn trimmed(line: &str) -> &str
     ensures { result.now ≡ trimmed line.now }
 {
-    match line.strip_suffix('\r') {
-        Some(front) => front,
-        None => line,
-    }
+    line.strip_suffix('\r').unwrap_or(line)
 }
 
 // The line of that number and those words, or nothing where it has no word.
@@ -79,11 +76,7 @@ fn line_of(heap: Global, number: u64, words: &[&str]) -> Result<Option<Line>, Al
 fn is_comment(line: &str) -> bool
     ensures { result ≡ comment line.now }
 {
-    let bytes = line.as_bytes();
-    if bytes.is_empty() {
-        return false;
-    }
-    bytes[0] == b'#'
+    line.starts_with('#')
 }
 
 // The same of a line as it stands; a comment is skipped.

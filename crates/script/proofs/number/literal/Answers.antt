@@ -1,4 +1,4 @@
-use Rattle.std.proofs.Common.{◌≡◌, ℕ, true, false, eqb, List, [], ◌∷◌, sym, refl, ap, ◌∙◌, ⊎_elim, arith}
+use Rattle.std.proofs.Common.{◌≡◌, ℕ, true, false, eqb, List, [], ◌∷◌, sym, refl, ap, ◌∙◌, ⊎_elim, rules, arith}
 use Rattle.std.specs.Option.{option_map}
 use Rattle.std.proofs.lemmas.Str.Pattern.{strip_prefix_char}
 use Rattle.std.proofs.lemmas.Option.{MatchOption-at_some, MatchOption-at_none}
@@ -21,9 +21,11 @@ without_minus (b ∷ w) f = ⊎_elim
 pub returns-in-Some : goal.returns-in-Some
 returns-in-Some c =
     let strip = strip_prefix_char 45 c.args.word.now _ c.strip_prefix.ensures.cases (omega arith) in
-    c.with_sign.ensures ∙ ap (option_map (signed true)) c.number.ensures ∙ with_minus _ _ (MatchOption-at_some _ _ _ c.in-Some.is strip)
+    let signs : c.map.result ≡ option_map (signed true) c.number.result = search rules in
+    signs ∙ ap (option_map (signed true)) c.number.ensures ∙ with_minus _ _ (MatchOption-at_some _ _ _ c.in-Some.is strip)
 
 pub returns-in-None : goal.returns-in-None
 returns-in-None c =
     let strip = strip_prefix_char 45 c.args.word.now _ c.strip_prefix.ensures.cases (omega arith) in
-    c.with_sign-in-None.ensures ∙ ap (option_map (signed false)) c.number-in-None.ensures ∙ without_minus _ (MatchOption-at_none _ _ c.in-None.is strip)
+    let signs : c.map-in-None.result ≡ option_map (signed false) c.number-in-None.result = search rules in
+    signs ∙ ap (option_map (signed false)) c.number-in-None.ensures ∙ without_minus _ (MatchOption-at_none _ _ c.in-None.is strip)

@@ -5,8 +5,8 @@ use Rattle.script.proofs.request.read_literals.Goals as goal
 pub loop-w-init : goal.loop-w-init
 loop-w-init c = none_yet (λ x. x.now) c.args.words.now _ c.new-literals.ensures.items
 
-pub returns-in-None : goal.returns-in-None
-returns-in-None c = sym (c.loop-w.invariant ∙ no_literal (λ x. x.now) c.args.words.now c.loop-w.w-index _ c.loop-w-test.true _ _ c.literal.ensures c.in-None.is)
+pub returns-in_default : goal.returns-in_default
+returns-in_default c = sym (c.loop-w.invariant ∙ no_literal (λ x. x.now) c.args.words.now c.loop-w.w-index _ c.loop-w-test.true _ _ c.literal.ensures c.in_default.is)
 
 pub loop-w-preserved : goal.loop-w-preserved
 loop-w-preserved c =

@@ -1,6 +1,6 @@
-use Rattle.std.proofs.Common.{◌≡◌, ℕ, eqb, List, [], ◌∷◌, ◌++◌, sym, refl, ap, ◌∙◌, ⊎_elim, arith}
+use Rattle.std.proofs.Common.{◌≡◌, ℕ, eqb, List, [], ◌∷◌, ◌++◌, Option, Some, None, Bor, MatchOption, sym, refl, ap, ◌∙◌, ⊎_elim, arith}
+use Rattle.std.specs.Option.{unwrap_or}
 use Rattle.std.proofs.lemmas.Str.Pattern.{strip_suffix_char}
-use Rattle.std.proofs.lemmas.Option.{MatchOption-at_some, MatchOption-at_none}
 use Rattle.std.proofs.lemmas.Bool.{cases_Bool, cond-false, eqb-true}
 use Rattle.script.specs.Lines.{trimmed}
 use Rattle.script.proofs.text.trimmed.Goals as goal
@@ -20,12 +20,11 @@ no_end (b ∷ []) n = ⊎_elim
     (cases_Bool (eqb b 13))
 no_end (b ∷ x ∷ bs) n = ap (λ l. b ∷ l) (no_end (x ∷ bs) (λ front e. n (b ∷ front) (ap (λ l. b ∷ l) e)))
 
-pub returns-in-Some : goal.returns-in-Some
-returns-in-Some c =
-    let strip = strip_suffix_char 13 c.args.line.now _ c.strip_suffix.ensures.cases (omega arith) in
-    cut_end _ ∙ sym (ap trimmed (MatchOption-at_some _ _ _ c.in-Some.is strip))
+cut : (o : Option (Bor (List ℕ))) (line : Bor (List ℕ)) → MatchOption o ((front : List ℕ) → line.now ≡ front ++ 13 ∷ [] → ⊥) (λ x. line.now ≡ x.now ++ 13 ∷ []) → (unwrap_or o line).now ≡ trimmed line.now
+cut (Some x) line h = cut_end x.now ∙ sym (ap trimmed h)
+cut None line h = no_end line.now h
 
-pub returns-in-None : goal.returns-in-None
-returns-in-None c =
-    let strip = strip_suffix_char 13 c.args.line.now _ c.strip_suffix.ensures.cases (omega arith) in
-    no_end _ (MatchOption-at_none _ _ c.in-None.is strip)
+pub returns : goal.returns
+returns c =
+    ap (λ (x : Bor (List ℕ)). x.now) c.unwrap_or.ensures
+    ∙ cut c.strip_suffix.result c.args.line (strip_suffix_char 13 c.args.line.now _ c.strip_suffix.ensures.cases (omega arith))
