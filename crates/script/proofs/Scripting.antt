@@ -1,5 +1,5 @@
 -- The lines of a script, one by one.
-use Rattle.std.proofs.Common.{◌≡◌, ℕ, true, false, List, [], ◌∷◌, ◌++◌, map, length, Some, None, Option, sym, refl, ap, ◌∙◌, append-nil, arith, Bor}
+use Rattle.std.proofs.Common.{◌≡◌, ℕ, ◌+◌, ◌^◌, ◌<◌, true, false, List, [], ◌∷◌, ◌++◌, map, length, Some, None, Option, sym, refl, ap, ◌∙◌, append-nil, arith, Bor}
 use Rattle.std.specs.declared.str.Split.{Split}
 use Rattle.std.specs.Str.Iter.{split_text, split_has_more, split_pattern}
 use Rattle.std.specs.Option.{option_map}
@@ -28,8 +28,12 @@ pub record Sofar (all : List Numbered) (ls : List Line) (n : ℕ) (s : Split ℕ
   pub callee : split_pattern s ≡ 10
   pub whole : all ≡ map line_as ls ++ lines_from n (left 10 s)
 
-pub none_yet : (bs : List ℕ) (ls : List Line) (s : Split ℕ) → ls ≡ [] → split_pattern s ≡ 10 → split_text s ≡ bs → split_has_more s ≡ true → Sofar (lines_of bs) ls 0 s
-none_yet bs ls s none c e l = record { callee = c; whole = sym (ap (λ vs. map line_as vs ++ lines_from 0 (left 10 s)) none ∙ ap (lines_from 0) (all_left 10 s s bs e l)) }
+pub none_yet : (bs : List ℕ) (ls : List Line) (n : ℕ) (s : Split ℕ) → ls ≡ [] → n ≡ 0 → split_pattern s ≡ 10 → split_text s ≡ bs → split_has_more s ≡ true → Sofar (lines_of bs) ls n s
+none_yet bs ls n s none z c e l = record { callee = c; whole = sym ((λ i. map line_as (none i) ++ lines_from (z i) (left 10 s)) ∙ ap (lines_from 0) (all_left 10 s s bs e l)) }
+
+-- the next number, where it fits
+pub next_is : (n m : ℕ) → m ≡ n + 1 → n + 1 < 2 ^ 64 → m ≡ next n
+next_is n m e h = e ∙ omega arith
 
 module _ (all : List Numbered) (ls : List Line) (n m : ℕ) (s t : Split ℕ) (old : Sofar all ls n s) (up : m ≡ next n) where
   onward : (x : Bor (List ℕ)) (o : Option Line) → Steps s (Some x) t → option_map line_as o ≡ line_of m x.now → (split_pattern t ≡ 10) × (all ≡ map line_as ls ++ kept (option_map line_as o) (lines_from m (left 10 t)))

@@ -95,10 +95,8 @@ pub fn read_script(heap: Global, script: &str) -> Result<Vec<Line>, AllocError>
     ensures { IfOk result (λ v. map line_as v.items ≡ lines_of script.now) }
 {
     let mut lines = Vec::new(heap);
-    let mut number: u64 = 0;
-    for line in script.split('\n') {
-        number = number.saturating_add(1);
-        let Some(read) = read_line(heap, number, line)? else {
+    for (i, line) in script.split('\n').enumerate() {
+        let Some(read) = read_line(heap, i as u64 + 1, line)? else {
             continue;
         };
         lines.push(read)?;
