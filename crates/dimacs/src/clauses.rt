@@ -1,5 +1,6 @@
 // The clauses of a text, handed out one by one.
-ghost use Rattle.std.specs.Prelude.{◌≡◌, [], ◌∷◌, Ok, MatchOption};
+ghost use Rattle.std.specs.Prelude.{◌≡◌, [], ◌∷◌, Ok, MatchOption, length};
+ghost use Rattle.std.specs.Iterator.{at_most};
 ghost use Rattle.dimacs.specs.Reading.{content, text_end, left};
 ghost use Rattle.dimacs.specs.Heading.{headed};
 ghost use Rattle.dimacs.specs.Walk.{Parsed, parse, walk, early, early_in};
@@ -44,6 +45,18 @@ impl<'a> Clauses<'a> {
             }
         }
         None
+    }
+}
+
+impl Iterator for Clauses<'_> {
+    type Item = Clause;
+
+    ghost next_gives = { λ s r t. MatchOption r ((to_come s ≡ []) × (to_come t ≡ [])) (λ c. to_come s ≡ c ∷ to_come t) };
+
+    ghost remaining = { λ s. at_most (length (to_come s)) };
+
+    fn next(&mut self) -> Option<Clause> {
+        self.next_clause()
     }
 }
 
