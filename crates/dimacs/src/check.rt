@@ -34,7 +34,7 @@ fn check_clauses(reader: &mut Reader<'_>, first: Scan) -> Result<(), Refusal>
 {
     let end = reader.end();
     let mut scan = first;
-    while let Some(word) = reader.next_word() {
+    for word in reader {
         scan = scan.take_word(word)?;
     }
     if scan.left > 0 {

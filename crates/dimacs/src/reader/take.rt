@@ -1,4 +1,5 @@
 ghost use Rattle.std.specs.Prelude.{◌≡◌, [], ◌∷◌, length, MatchOption};
+ghost use Rattle.std.specs.Iterator.{at_most};
 ghost use Rattle.dimacs.specs.Reading.{content, text_end, left, piece};
 ghost use Rattle.dimacs.specs.Preface.{after_preface};
 
@@ -38,5 +39,17 @@ impl<'a> Reader<'a> {
             bytes: &text[start..end],
             place: start,
         })
+    }
+}
+
+impl<'a> Iterator for Reader<'a> {
+    type Item = Word<'a>;
+
+    ghost next_gives = { λ s r t. (content t ≡ content s) × MatchOption r ((left s ≡ []) × (left t ≡ [])) (λ w. left s ≡ piece w ∷ left t) };
+
+    ghost remaining = { λ s. at_most (length (left s)) };
+
+    fn next(&mut self) -> Option<Word<'a>> {
+        self.next_word()
     }
 }
