@@ -6,7 +6,7 @@ ghost use Rattle.trace.specs.Calls.{left, over, has_room, traced};
 
 use crate::held::count;
 use crate::mark::mark;
-use crate::put::put_trace;
+use crate::put::Marked;
 use clause::refusal::Refusal;
 use clause::words::Clause;
 use session::search::Phase;
@@ -36,7 +36,7 @@ fn write_refutation<S: ClauseStore>(
     ensures count { result ≡ length (trace session.now.search.atoms (S.held session.now.store.now).entries last.first last.second) }
 {
     mark(session, last, marks);
-    put_trace(session, last, marks, buffer)
+    Marked { session, marks }.put_trace(last, buffer)
 }
 
 // Under an unsatisfiable verdict, the trace of the refutation, written over the first bytes of the buffer, and the mark of each held entry: 1 where

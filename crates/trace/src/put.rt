@@ -23,6 +23,14 @@ pub(crate) struct Count {
     given: u32,
 }
 
+// A session, and a mark for each of its entries.
+#[derive(Drop)]
+pub(crate) struct Marked<'a, 'b, S: ClauseStore> {
+    pub(crate) session: &'a Session<'b, S>,
+    pub(crate) marks: &'a [u8],
+    ghost each: { length (S.held session.now.store.now).entries ≤ length marks.now },
+}
+
 fn given_of(line: Line) -> u32
     ensures { result ≡ (if is_bare line then 1 else 0) }
 {
@@ -41,32 +49,6 @@ fn trailer_for(atoms: u32, count: Count) -> Trailer
     }
 }
 
-// Writes the lines of the marked entries by arrival, renumbered by the table.
-fn put_entries<S: ClauseStore>(
-    session: &Session<'_, S>,
-    marks: &[u8],
-    table: &[u16],
-    buffer: &mut [u8],
-) -> Count
-    requires { (length (S.held session.now.store.now).entries ≤ length marks.now) × ((24 * length (S.held session.now.store.now).entries ≤ length buffer.old) × (Table (chosen marks.now (S.held session.now.store.now).entries) table.now)) }
-    ensures wrote { buffer.new ≡ over (lines_bytes (entry_lines (S.held session.now.store.now).entries (chosen marks.now (S.held session.now.store.now).entries))) buffer.old }
-    ensures lines { result.lines ≡ length (chosen marks.now (S.held session.now.store.now).entries) }
-    ensures given { result.given ≡ given_lines (entry_lines (S.held session.now.store.now).entries (chosen marks.now (S.held session.now.store.now).entries)) }
-    ensures few { (result.lines ≤ length (S.held session.now.store.now).entries) × (result.given ≤ result.lines) }
-{
-    let mut lines = 0;
-    let mut given = 0;
-    for (i, mark) in marks[..count(session)].iter().enumerate() {
-        if is_marked(*mark) {
-            let line = renumber(table, held_line(session, i as u16 + 1));
-            let _ = put_line(buffer, lines + 1, line);
-            lines += 1;
-            given += given_of(line);
-        }
-    }
-    Count { lines, given }
-}
-
 // Writes the last line and the trailer behind the lines of the entries: the length of the trace.
 fn put_end(buffer: &mut [u8], atoms: u32, entries: Count, last: Line) -> usize
     requires { (entries.lines ≤ 16384) × ((entries.given ≤ entries.lines) × (24 * (entries.lines + 2) ≤ length buffer.old)) }
@@ -82,21 +64,39 @@ fn put_end(buffer: &mut [u8], atoms: u32, entries: Count, last: Line) -> usize
     24 * (count.lines as usize + 1)
 }
 
-// Writes the trace of the marked entries and of the last derivation: its length.
-pub(crate) fn put_trace<S: ClauseStore>(
-    session: &Session<'_, S>,
-    last: Entry,
-    marks: &[u8],
-    buffer: &mut [u8],
-) -> usize
-    requires empty { as_line last ≡ closing last.first last.second }
-    requires room { (length (S.held session.now.store.now).entries ≤ length marks.now) × (24 * (length (S.held session.now.store.now).entries + 2) ≤ length buffer.old) }
-    ensures bytes { buffer.new ≡ over (trace_of session.now.search.atoms (trace_lines (S.held session.now.store.now).entries (chosen marks.now (S.held session.now.store.now).entries) last.first last.second)) buffer.old }
-    ensures count { result ≡ length (trace_of session.now.search.atoms (trace_lines (S.held session.now.store.now).entries (chosen marks.now (S.held session.now.store.now).entries) last.first last.second)) }
-{
-    let mut table = [0u16; 16384];
-    number(marks, count(session), &mut table);
-    let entries = put_entries(session, marks, &table, buffer);
-    let line = renumber(&table, entry_line(last));
-    put_end(buffer, session.search().atoms, entries, line)
+impl<'a, 'b, S: ClauseStore> Marked<'a, 'b, S> {
+    // Writes the lines of the marked entries by arrival, renumbered by the table.
+    fn put_entries(&self, table: &[u16], buffer: &mut [u8]) -> Count
+        requires { (24 * length (S.held self.now.session.now.store.now).entries ≤ length buffer.old) × (Table (chosen self.now.marks.now (S.held self.now.session.now.store.now).entries) table.now) }
+        ensures wrote { buffer.new ≡ over (lines_bytes (entry_lines (S.held self.now.session.now.store.now).entries (chosen self.now.marks.now (S.held self.now.session.now.store.now).entries))) buffer.old }
+        ensures lines { result.lines ≡ length (chosen self.now.marks.now (S.held self.now.session.now.store.now).entries) }
+        ensures given { result.given ≡ given_lines (entry_lines (S.held self.now.session.now.store.now).entries (chosen self.now.marks.now (S.held self.now.session.now.store.now).entries)) }
+        ensures few { (result.lines ≤ length (S.held self.now.session.now.store.now).entries) × (result.given ≤ result.lines) }
+    {
+        let mut lines = 0;
+        let mut given = 0;
+        for (i, mark) in self.marks[..count(self.session)].iter().enumerate() {
+            if is_marked(*mark) {
+                let line = renumber(table, held_line(self.session, i as u16 + 1));
+                let _ = put_line(buffer, lines + 1, line);
+                lines += 1;
+                given += given_of(line);
+            }
+        }
+        Count { lines, given }
+    }
+
+    // Writes the trace of the marked entries and of the last derivation: its length.
+    pub(crate) fn put_trace(&self, last: Entry, buffer: &mut [u8]) -> usize
+        requires empty { as_line last ≡ closing last.first last.second }
+        requires room { 24 * (length (S.held self.now.session.now.store.now).entries + 2) ≤ length buffer.old }
+        ensures bytes { buffer.new ≡ over (trace_of self.now.session.now.search.atoms (trace_lines (S.held self.now.session.now.store.now).entries (chosen self.now.marks.now (S.held self.now.session.now.store.now).entries) last.first last.second)) buffer.old }
+        ensures count { result ≡ length (trace_of self.now.session.now.search.atoms (trace_lines (S.held self.now.session.now.store.now).entries (chosen self.now.marks.now (S.held self.now.session.now.store.now).entries) last.first last.second)) }
+    {
+        let mut table = [0u16; 16384];
+        number(self.marks, count(self.session), &mut table);
+        let entries = self.put_entries(&table, buffer);
+        let line = renumber(&table, entry_line(last));
+        put_end(buffer, self.session.search().atoms, entries, line)
+    }
 }

@@ -8,19 +8,19 @@ use Rattle.trace.specs.Lines.{order, chosen, trailer_for}
 use Rattle.trace.specs.Tables.{Table, by_table}
 use Rattle.trace.proofs.Numbering.{table_none}
 use Rattle.trace.proofs.Writing.{trace_count, trace_put}
-use Rattle.trace.proofs.put.put_trace.Goals as goal
+use Rattle.trace.proofs.put.Marked.put_trace.Goals as goal
 
 pub number-requires : goal.number-requires
 number-requires g c = (omega arith, (omega arith, (omega arith, table_none 16384)))
 
 pub returns : goal.returns
 returns g c =
-    let es = (g.S.ClauseStore.held c.args.session.now.store.now).entries in
-    let ms = c.args.marks.now in
+    let es = (g.S.ClauseStore.held c.args.self.now.session.now.store.now).entries in
+    let ms = c.args.self.now.marks.now in
     let ks = chosen ms es in
     let o = c.args.buffer.now in
     let d = c.put_entries-entries in
-    let n = c.args.session.now.search.atoms in
+    let n = c.args.self.now.session.now.search.atoms in
     let table = c.number.new.table in
     let l = c.renumber-line.result in
     let tab : Table ks table = subst (λ (k : ℕ). Table (order (marked ms) k) table) c.count.ensures.value c.number.ensures in
