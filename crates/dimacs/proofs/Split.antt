@@ -1,6 +1,6 @@
 -- What one call of the reader takes off the words of a text.
 use Rattle.std.proofs.Common.{◌≡◌, ℕ, zero, suc, ◌+◌, ◌-◌, ◌<◌, ◌≤◌, List, [], ◌∷◌, ◌++◌, length, take, drop, sym, refl, ap, ◌∙◌, subst, ⊎_elim, append_assoc, append-nil, add-zero, one-add, arith, length-drop, length-take}
-use Rattle.std.proofs.lemmas.List.{drop-drop}
+use Rattle.std.proofs.lemmas.List.{drop-drop, take_rest}
 use Rattle.std.specs.List.{prefix_len}
 use Rattle.std.proofs.lemmas.Bool.{cases_Bool, cond-true, cond-false, not_from_true, not_from_false}
 use Rattle.dimacs.specs.Runs.{blank, in_word}
@@ -72,6 +72,18 @@ pub record Next (t : List ℕ) (a s e : ℕ) : Type 0 where
   pub starts : s ≡ a + prefix_len blank (drop a t)
   pub ends : e ≡ s + prefix_len in_word (drop s t)
   pub within : e ≤ length t
+
+-- so it is where j blanks and then k bytes of a word are counted
+pub next_from : (t : List ℕ) (a j k : ℕ) → a ≤ length t → j ≡ prefix_len blank (take (length t - a) (drop a t)) → j ≤ length (take (length t - a) (drop a t))
+    → k ≡ prefix_len in_word (take (length t - (a + j)) (drop (a + j) t)) → k ≤ length (take (length t - (a + j)) (drop (a + j) t)) → Next t a (a + j) (a + j + k)
+next_from t a j k h e l f m =
+    let x = take_rest t a in
+    let y = take_rest t (a + j) in
+    record {
+      starts = ap (λ (n : ℕ). a + n) (e ∙ ap (prefix_len blank) x);
+      ends = ap (λ (n : ℕ). a + j + n) (f ∙ ap (prefix_len in_word) y);
+      within = omega (arith, ap length x, ap length y, length-drop a t, length-drop (a + j) t);
+    }
 
 module _ {t : List ℕ} {a s e : ℕ} (n : Next t a s e) where
   step : words a (drop a t) ≡ ended s (take (e - s) (drop s t)) (words e (drop e t))

@@ -1,18 +1,17 @@
 // What stands before the heading of a text.
-ghost use Rattle.std.specs.Prelude.{◌≡◌, ◌+◌, ◌≤◌, length, drop};
+ghost use Rattle.std.specs.Prelude.{◌≡◌, ◌≤◌, length};
 ghost use Rattle.dimacs.specs.Preface.{preface, start, lead};
 
-use crate::runs::{is_in_line, is_indent, run_end};
+use crate::runs::{is_in_line, is_indent, run_length};
 
-// Where the first word of a line begins, or where the line ends if it is a comment or has no word.
-fn lead_end(text: &[u8], at: usize) -> usize
-    requires { at ≤ length text.now }
-    ensures value { result ≡ at + lead (drop at text.now) }
-    ensures within { result ≤ length text.now }
+// How much of a line stands before its first word, or before its end if it is a comment or has no word.
+fn lead(line: &[u8]) -> usize
+    ensures value { result ≡ lead line.now }
+    ensures within { result ≤ length line.now }
 {
-    match &text[at..] {
-        [b'c', ..] => run_end(text, at, is_in_line),
-        _ => run_end(text, at, is_indent),
+    match line {
+        [b'c', ..] => run_length(line, is_in_line),
+        _ => run_length(line, is_indent),
     }
 }
 
@@ -21,9 +20,10 @@ pub(crate) fn heading_place(text: &[u8]) -> usize
     ensures value { result ≡ preface start text.now }
     ensures within { result ≤ length text.now }
 {
-    let mut at = lead_end(text, 0);
+    let mut at = lead(text);
     while text.get(at) == Some(&b'\n') {
-        at = lead_end(text, at + 1);
+        at += 1;
+        at += lead(&text[at..]);
     }
     at
 }

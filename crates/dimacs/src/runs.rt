@@ -1,5 +1,5 @@
 // Runs of bytes of one kind.
-ghost use Rattle.std.specs.Prelude.{◌≡◌, ℕ, ◌+◌, ◌^◌, ◌<◌, ◌≤◌, Bool, length, drop};
+ghost use Rattle.std.specs.Prelude.{◌≡◌, ℕ, ◌^◌, ◌<◌, ◌≤◌, Bool, length};
 ghost use Rattle.std.specs.List.{prefix_len};
 ghost use Rattle.dimacs.specs.Runs.{blank, in_word, in_line, indent};
 
@@ -31,13 +31,11 @@ pub(crate) fn is_indent(b: u8) -> bool
     b == b' ' || b == b'\t'
 }
 
-// Where the bytes from a place on that pass the test end.
-pub(crate) fn run_end<F: Fn(u8) -> bool>(text: &[u8], at: usize, test: F) -> usize
-    requires from { at ≤ length text.now }
-    requires tests { F.IsAlwaysCallable test }
-    ensures value { (p : ℕ → Bool) → ((b : ℕ) (r : Bool) → b < 2 ^ 8 → F.post test b r → r ≡ p b) → result ≡ at + prefix_len p (drop at text.now) }
-    ensures onward { at ≤ result }
-    ensures within { result ≤ length text.now }
+// How many bytes pass the test before the first that fails it.
+pub(crate) fn run_length<F: Fn(u8) -> bool>(bytes: &[u8], test: F) -> usize
+    requires { F.IsAlwaysCallable test }
+    ensures value { (p : ℕ → Bool) → ((b : ℕ) (r : Bool) → b < 2 ^ 8 → F.post test b r → r ≡ p b) → result ≡ prefix_len p bytes.now }
+    ensures within { result ≤ length bytes.now }
 {
-    at + text[at..].iter().take_while(|b| test(**b)).count()
+    bytes.iter().take_while(|b| test(**b)).count()
 }

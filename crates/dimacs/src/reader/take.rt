@@ -5,7 +5,7 @@ ghost use Rattle.dimacs.specs.Preface.{after_preface};
 
 use crate::preface::heading_place;
 use crate::reader::{Reader, Word};
-use crate::runs::{is_blank, is_in_word, run_end};
+use crate::runs::{is_blank, is_in_word, run_length};
 
 impl<'a> Reader<'a> {
     // A reader of the words from the heading on: all that are in no comment line before it.
@@ -29,8 +29,8 @@ impl<'a> Reader<'a> {
         ensures cases { MatchOption result ((left self.old ≡ []) × (left self.new ≡ [])) (λ w. left self.old ≡ piece w ∷ left self.new) }
     {
         let text = self.text;
-        let start = run_end(text, self.at, is_blank);
-        let end = run_end(text, start, is_in_word);
+        let start = self.at + run_length(&text[self.at..], is_blank);
+        let end = start + run_length(&text[start..], is_in_word);
         self.at = end;
         if start == end {
             return None;
