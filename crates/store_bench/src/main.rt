@@ -60,20 +60,6 @@ fn clause_at(clauses: &[Clause], place: u32) -> Clause {
         .unwrap_or(Clause::empty())
 }
 
-// The i-th clause to be asked for.
-fn asked(clauses: &[Clause], task: &Task, i: u32) -> Clause {
-    clause_at(clauses, scattered(task.range, ASK_STEP, i))
-}
-
-// The i-th entry to arrive.
-fn arriving(clauses: &[Clause], task: &Task, i: u32) -> Entry {
-    let place = match task.arrival {
-        Arrival::Scattered => scattered(task.range, PUT_STEP, i),
-        Arrival::Alternating => alternating(task.range, i),
-    };
-    Entry::given(clause_at(clauses, place))
-}
-
 // The i-th valuation: of atoms 1 to 11 some, atom 12 as asked.
 fn valuation(i: u32, twelfth: bool) -> u64 {
     let low = i.wrapping_mul(1289) as u64 & 2047;
@@ -91,16 +77,49 @@ fn repeat<F: FnMut(u32) -> u64>(times: u32, mut once: F) -> u64
     sum
 }
 
-// Does the work, and answers the sum of the answers.
-fn work<M: Measured>(store: &mut M, held: &[Clause], others: &[Clause], task: &Task) -> u64 {
-    match task.work {
-        Work::Find => repeat(task.times, |i| store.look(&asked(held, task, i))),
-        Work::Miss => repeat(task.times, |i| store.look(&asked(others, task, i))),
-        Work::Put => repeat(task.times, |i| {
-            store.add(arriving(held, task, task.built.wrapping_add(i)))
-        }),
-        Work::Least => repeat(task.times, |i| store.least(valuation(i, false))),
-        Work::Never => repeat(task.times, |i| store.least(valuation(i, true))),
+// A task with the clauses that are put, and those that never are, in clause order.
+#[derive(Clone, Copy)]
+struct Job<'a> {
+    task: Task,
+    held: &'a [Clause],
+    others: &'a [Clause],
+}
+
+impl Job<'_> {
+    // The i-th place to be asked for.
+    fn asked(&self, i: u32) -> u32 {
+        scattered(self.task.range, ASK_STEP, i)
+    }
+
+    // The i-th entry to arrive.
+    fn arriving(&self, i: u32) -> Entry {
+        let range = self.task.range;
+        let place = match self.task.arrival {
+            Arrival::Scattered => scattered(range, PUT_STEP, i),
+            Arrival::Alternating => alternating(range, i),
+        };
+        Entry::given(clause_at(self.held, place))
+    }
+
+    // Puts the entries that the work begins with, and answers the sum of the answers.
+    fn build<M: Measured>(&self, store: &mut M) -> u64 {
+        repeat(self.task.built, |i| store.fill(self.arriving(i)))
+    }
+
+    // Does the work, and answers the sum of the answers.
+    fn work<M: Measured>(&self, store: &mut M) -> u64 {
+        let times = self.task.times;
+        let built = self.task.built;
+        match self.task.work {
+            Work::Find => repeat(times, |i| store.look(&clause_at(self.held, self.asked(i)))),
+            Work::Miss => repeat(
+                times,
+                |i| store.look(&clause_at(self.others, self.asked(i))),
+            ),
+            Work::Put => repeat(times, |i| store.add(self.arriving(built.wrapping_add(i)))),
+            Work::Least => repeat(times, |i| store.least(valuation(i, false))),
+            Work::Never => repeat(times, |i| store.least(valuation(i, true))),
+        }
     }
 }
 
@@ -113,9 +132,14 @@ fn measure<M: Measured>(
     let heap = rt.alloc();
     let held = fifths::<PUT>(heap, COUNT)?;
     let others = fifths::<OTHER>(heap, COUNT)?;
-    let built = repeat(task.built, |i| store.fill(arriving(&held, task, i)));
+    let job = Job {
+        task: *task,
+        held: &held,
+        others: &others,
+    };
+    let built = job.build(store);
     let start = Instant::now(rt)?;
-    let sum = work(store, &held, &others, task);
+    let sum = job.work(store);
     let nanos = start.elapsed(rt)?.as_nanos();
     println!(rt; "{line}: {nanos} ns, sums {built} {sum}")
 }

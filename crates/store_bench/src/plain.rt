@@ -38,11 +38,16 @@ impl Plain {
 
     // The index of the first clause in clause order that is false.
     pub fn least_false(&self, valuation: u64) -> Option<usize> {
-        self.entries
-            .iter()
-            .enumerate()
-            .filter(|(_, entry)| !entry.clause.is_true(valuation))
-            .min_by_key(|(_, entry)| entry.clause)
-            .map(|(i, _)| i)
+        // kept: `filter` and `min_by_key` take an instruction more an entry, and the baseline is to be as fast as it was
+        let mut least = None;
+        let mut first = Clause::empty();
+        for (i, entry) in self.entries.iter().enumerate() {
+            let clause = entry.clause;
+            if !clause.is_true(valuation) && (least.is_none() || clause < first) {
+                least = Some(i);
+                first = clause;
+            }
+        }
+        least
     }
 }

@@ -15,31 +15,6 @@ use skip_store::skips::{SkipStore, blank, links_for};
 use std::io;
 use store::store::ClauseStore;
 
-// Performs the table on the store, prints a line for each wrong answer, and answers how many were right.
-fn perform<S: ClauseStore>(
-    rt: &HostRuntime,
-    table: &str,
-    name: &str,
-    store: &mut S,
-    rows: &[Row],
-) -> io::Result<usize>
-    ensures { IfOk result (λ n. n ≤ length rows.now) }
-{
-    let mut right = 0;
-    for (i, row) in rows.iter().enumerate() {
-        let Row(request, expected) = *row;
-        let answer = ask(store, &request);
-        if answer == expected {
-            right += 1;
-        } else {
-            println!(rt;
-                "wrong: {table}, {name} store, request {i}: {request:?} answers {answer:?} and not {expected:?}"
-            )?;
-        }
-    }
-    Ok(right)
-}
-
 // How much memory is lent: slots and seats to the row, records and links to the skip list.
 #[derive(Clone, Copy)]
 struct Lent {
@@ -62,50 +37,95 @@ fn lent_for(places: u16) -> Lent
     }
 }
 
-// kept: `over_row` and `over_skip` stay two, since a store borrows memory of its own kind, and one function over both would take a trait that makes the memory and lends the store
-fn over_row(rt: &HostRuntime, table: &str, lent: &Lent, rows: &[Row]) -> io::Result<usize>
-    ensures { IfOk result (λ n. n ≤ length rows.now) }
-{
-    let heap = rt.alloc();
-    let mut slots = vec![in heap; Slot::blank(); lent.slots]?;
-    let mut seats = vec![in heap; 0u16; lent.seats]?;
-    let mut store = RowStore::new(&mut slots, &mut seats);
-    perform(rt, table, "row", &mut store, rows)
+// A table: its requests with their answers, and the memory that is lent to each store.
+#[derive(Clone, Copy)]
+struct Table<'a> {
+    name: &'a str,
+    lent: Lent,
+    rows: &'a [Row],
 }
 
-fn over_skip(rt: &HostRuntime, table: &str, lent: &Lent, rows: &[Row]) -> io::Result<usize>
-    ensures { IfOk result (λ n. n ≤ length rows.now) }
-{
-    let heap = rt.alloc();
-    let mut records = vec![in heap; blank(); lent.records]?;
-    let mut links = vec![in heap; 0u16; lent.links]?;
-    let mut store = SkipStore::new(&mut records, &mut links);
-    perform(rt, table, "skip", &mut store, rows)
+impl<'a> Table<'a> {
+    fn new(name: &'a str, lent: Lent, rows: &'a [Row]) -> Table<'a>
+        ensures { (result.lent ≡ lent) × (result.rows.now ≡ rows.now) }
+    {
+        Table { name, lent, rows }
+    }
 }
 
-// Performs the table on an empty store of each kind in the lent memory, and prints how many answers were right.
-fn over_both(rt: &HostRuntime, table: &str, lent: Lent, rows: &[Row]) -> io::Result<()> {
-    let asked = rows.len();
-    let row = over_row(rt, table, &lent, rows)?;
-    let skip = over_skip(rt, table, &lent, rows)?;
-    println!(rt; "{table}: {asked} requests, right: row {row}, skip {skip}")
+impl Table<'_> {
+    // Performs the table on the store, prints a line for each wrong answer, and answers how many were right.
+    fn perform<S: ClauseStore>(
+        &self,
+        rt: &HostRuntime,
+        kind: &str,
+        store: &mut S,
+    ) -> io::Result<usize>
+        ensures { IfOk result (λ n. n ≤ length self.now.rows.now) }
+    {
+        let table = self.name;
+        let mut right = 0;
+        for (i, row) in self.rows.iter().enumerate() {
+            let Row(request, expected) = *row;
+            let answer = ask(store, &request);
+            if answer == expected {
+                right += 1;
+            } else {
+                println!(rt;
+                    "wrong: {table}, {kind} store, request {i}: {request:?} answers {answer:?} and not {expected:?}"
+                )?;
+            }
+        }
+        Ok(right)
+    }
+
+    // kept: `over_row` and `over_skip` stay two, since a store borrows memory of its own kind, and one function over both would take a trait that makes
+    // the memory and lends the store
+    fn over_row(&self, rt: &HostRuntime) -> io::Result<usize>
+        ensures { IfOk result (λ n. n ≤ length self.now.rows.now) }
+    {
+        let heap = rt.alloc();
+        let mut slots = vec![in heap; Slot::blank(); self.lent.slots]?;
+        let mut seats = vec![in heap; 0u16; self.lent.seats]?;
+        let mut store = RowStore::new(&mut slots, &mut seats);
+        self.perform(rt, "row", &mut store)
+    }
+
+    fn over_skip(&self, rt: &HostRuntime) -> io::Result<usize>
+        ensures { IfOk result (λ n. n ≤ length self.now.rows.now) }
+    {
+        let heap = rt.alloc();
+        let mut records = vec![in heap; blank(); self.lent.records]?;
+        let mut links = vec![in heap; 0u16; self.lent.links]?;
+        let mut store = SkipStore::new(&mut records, &mut links);
+        self.perform(rt, "skip", &mut store)
+    }
+
+    // Performs the table on an empty store of each kind in the lent memory, and prints how many answers were right.
+    fn over_both(&self, rt: &HostRuntime) -> io::Result<()> {
+        let row = self.over_row(rt)?;
+        let skip = self.over_skip(rt)?;
+        let name = self.name;
+        let asked = self.rows.len();
+        println!(rt; "{name}: {asked} requests, right: row {row}, skip {skip}")
+    }
 }
 
 fn few_places(rt: &HostRuntime) -> io::Result<()> {
-    over_both(rt, "no places", lent_for(0), &tables::NO_PLACES)?;
-    over_both(rt, "one place", lent_for(1), &tables::ONE_PLACE)?;
-    over_both(rt, "held again", lent_for(4), &tables::HELD_AGAIN)?;
-    over_both(rt, "full", lent_for(3), &tables::FULL)
+    Table::new("no places", lent_for(0), &tables::NO_PLACES).over_both(rt)?;
+    Table::new("one place", lent_for(1), &tables::ONE_PLACE).over_both(rt)?;
+    Table::new("held again", lent_for(4), &tables::HELD_AGAIN).over_both(rt)?;
+    Table::new("full", lent_for(3), &tables::FULL).over_both(rt)
 }
 
 fn questions(rt: &HostRuntime) -> io::Result<()> {
-    over_both(rt, "entry outside", lent_for(4), &tables::ENTRY_OUTSIDE)?;
-    over_both(rt, "find absent", lent_for(4), &tables::FIND_ABSENT)?;
-    over_both(rt, "order, last first", lent_for(7), &tables::ORDER_DOWN)?;
-    over_both(rt, "order, first first", lent_for(7), &tables::ORDER_UP)?;
-    over_both(rt, "highest atom", lent_for(3), &tables::HIGHEST_ATOM)?;
-    over_both(rt, "none false", lent_for(4), &tables::NONE_FALSE)?;
-    over_both(rt, "antecedents", lent_for(4), &tables::ANTECEDENTS)
+    Table::new("entry outside", lent_for(4), &tables::ENTRY_OUTSIDE).over_both(rt)?;
+    Table::new("find absent", lent_for(4), &tables::FIND_ABSENT).over_both(rt)?;
+    Table::new("order, last first", lent_for(7), &tables::ORDER_DOWN).over_both(rt)?;
+    Table::new("order, first first", lent_for(7), &tables::ORDER_UP).over_both(rt)?;
+    Table::new("highest atom", lent_for(3), &tables::HIGHEST_ATOM).over_both(rt)?;
+    Table::new("none false", lent_for(4), &tables::NONE_FALSE).over_both(rt)?;
+    Table::new("antecedents", lent_for(4), &tables::ANTECEDENTS).over_both(rt)
 }
 
 fn memory(rt: &HostRuntime) -> io::Result<()> {
@@ -115,14 +135,14 @@ fn memory(rt: &HostRuntime) -> io::Result<()> {
         records: 20000,
         links: 40000,
     };
-    over_both(rt, "20,000 lent", many, &tables::MANY_LENT)?;
+    Table::new("20,000 lent", many, &tables::MANY_LENT).over_both(rt)?;
     let fewer_records = Lent {
         slots: 3,
         seats: 5,
         records: 3,
         links: 10,
     };
-    over_both(rt, "fewer records", fewer_records, &tables::UNEQUAL)?;
+    Table::new("fewer records", fewer_records, &tables::UNEQUAL).over_both(rt)?;
     // Seven links are enough for three places and one over.
     let fewer_seats = Lent {
         slots: 5,
@@ -130,7 +150,7 @@ fn memory(rt: &HostRuntime) -> io::Result<()> {
         records: 5,
         links: 7,
     };
-    over_both(rt, "fewer seats and links", fewer_seats, &tables::UNEQUAL)?;
+    Table::new("fewer seats and links", fewer_seats, &tables::UNEQUAL).over_both(rt)?;
     // One link is less than a place takes.
     let no_seats = Lent {
         slots: 4,
@@ -138,24 +158,24 @@ fn memory(rt: &HostRuntime) -> io::Result<()> {
         records: 4,
         links: 1,
     };
-    over_both(
-        rt,
+    Table::new(
         "records without seats and links",
         no_seats,
         &tables::NO_PLACES,
-    )?;
+    )
+    .over_both(rt)?;
     let no_records = Lent {
         slots: 0,
         seats: 4,
         records: 0,
         links: 8,
     };
-    over_both(
-        rt,
+    Table::new(
         "seats and links without records",
         no_records,
         &tables::NO_PLACES,
     )
+    .over_both(rt)
 }
 
 fn main(rt: HostRuntime) -> io::Result<()> {
