@@ -67,11 +67,5 @@ fn run_loaded<S: ClauseStore>(session: &mut Session<'_, S>, atoms: u32) -> Resul
     ensures { MatchResult result (λ t. t ≡ ran atoms (run (S.held session.old.store.now) session.old.search 2000000)) (λ e. faulted (told e) ≡ ran atoms (run (S.held session.old.store.now) session.old.search 2000000)) }
 {
     let report = session.run(2_000_000)?;
-    Ok(report_text(
-        atoms,
-        &session.search(),
-        report.outcome,
-        session.size(),
-        session.places(),
-    ))
+    Ok(report_text(session, atoms, report.outcome))
 }

@@ -8,7 +8,8 @@ ghost use Rattle.answer.specs.Printed.{values_line};
 use crate::text::Text;
 use clause::refusal::Refusal;
 use session::report::Outcome;
-use session::search::Search;
+use session::session::Session;
+use store::store::ClauseStore;
 
 // 100 times size by places, rounded half up; 0 where there are no places.
 pub(crate) fn percent_of(size: u16, places: u16) -> u64
@@ -56,34 +57,33 @@ fn put_values(text: &mut Text, atoms: u32, valuation: u64)
 }
 
 // The line of counts: given entries, derivations, settings, and how full the store is.
-fn put_counts(text: &mut Text, search: &Search, size: u16, places: u16)
+fn put_counts<S: ClauseStore>(text: &mut Text, session: &Session<'_, S>)
     requires { length text.old ≤ 276 }
-    ensures { text.new ≡ text.old ++ counted search.now size places }
+    ensures { text.new ≡ text.old ++ counted session.now.search (length (S.held session.now.store.now).entries) (S.held session.now.store.now).places }
 {
+    let search = session.search();
     text.put(b"r");
     text.field(u64::from(search.given));
     text.field(u64::from(search.made.derivations));
     text.field(u64::from(search.made.settings));
-    text.field(percent_of(size, places));
+    text.field(percent_of(session.size(), session.places()));
     text.put(b"\n");
 }
 
 // How a run ended: the verdict, under satisfiable the valuation, and the counts.
-pub(crate) fn report_text(
+pub(crate) fn report_text<S: ClauseStore>(
+    session: &Session<'_, S>,
     atoms: u32,
-    search: &Search,
     outcome: Outcome,
-    size: u16,
-    places: u16,
 ) -> Text
     requires { atoms ≤ 64 }
-    ensures { result ≡ reported atoms search.now (said outcome) size places }
+    ensures { result ≡ reported atoms session.now.search (said outcome) (length (S.held session.now.store.now).entries) (S.held session.now.store.now).places }
 {
     let mut text = Text::new();
     text.put(verdict(outcome));
     if let Outcome::Satisfiable = outcome {
-        put_values(&mut text, atoms, search.valuation);
+        put_values(&mut text, atoms, session.search().valuation);
     }
-    put_counts(&mut text, search, size, places);
+    put_counts(&mut text, session);
     text
 }

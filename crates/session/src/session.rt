@@ -104,8 +104,7 @@ impl<'a, S: ClauseStore> Session<'a, S> {
         ensures made { (p : Parsed) → parse self.old.search.atoms text.now ≡ Ok p → length p.clauses ≡ count → after (S.held self.new.store.now) self.new.search (answer result) ≡ load_all (S.held self.old.store.now) self.old.search p.clauses (nat_lt ((S.held self.old.store.now).places - length (S.held self.old.store.now).entries) (length p.clauses)) }
     {
         if self.has_free(count) {
-            let mut clauses = Clauses::new(text, self.search.atoms);
-            self.accept_all(&mut clauses);
+            self.accept_all(Clauses::new(text, self.search.atoms));
             return Ok(count as u16);
         }
         Err(Refusal::NoPlaceFree)
@@ -119,11 +118,11 @@ impl<'a, S: ClauseStore> Session<'a, S> {
         count <= u32::from(self.store.places() - self.store.size())
     }
 
-    fn accept_all(&mut self, clauses: &mut Clauses<'_>)
+    fn accept_all(&mut self, clauses: Clauses<'_>)
         ensures named { self.new.store.ghost_name ≡ self.old.store.ghost_name }
-        ensures made { (m : ℕ) → after (S.held self.new.store.now) self.new.search (Ok m) ≡ loads m (S.held self.old.store.now) self.old.search (to_come clauses.old) }
+        ensures made { (m : ℕ) → after (S.held self.new.store.now) self.new.search (Ok m) ≡ loads m (S.held self.old.store.now) self.old.search (to_come clauses.entry) }
     {
-        while let Some(clause) = clauses.next_clause() {
+        for clause in clauses {
             let _ = self.accept(&clause);
         }
     }
@@ -200,6 +199,7 @@ impl<'a, S: ClauseStore> Session<'a, S> {
     }
 
     // Sets the highest atom of the false clause c, which has number k, or derives a clause from the reason of that atom and c.
+    // Kept `let .. else` and one match over phase, clause and budget in `steps`: the rules of the project name these forms for a step and a run.
     fn step(&mut self, k: u16, c: &Clause) -> Result<Step, Refusal>
         ensures named { self.new.store.ghost_name ≡ self.old.store.ghost_name }
         ensures made { after (S.held self.new.store.now) self.new.search (answer result) ≡ step (S.held self.old.store.now) self.old.search k c.now }

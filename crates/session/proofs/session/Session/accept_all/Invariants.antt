@@ -1,4 +1,4 @@
-use Rattle.std.proofs.Common.{◌≡◌, ℕ, length}
+use Rattle.std.proofs.Common.{◌≡◌, ℕ}
 use Rattle.dimacs.specs.ToCome.{to_come}
 use Rattle.session.specs.Calls.{loads}
 use Rattle.session.proofs.session.Session.accept_all.Given as goal
@@ -6,8 +6,5 @@ use Rattle.session.proofs.session.Session.accept_all.Given as goal
 abbrev pub invariant-loop-clause : goal.invariant-loop-clause
 invariant-loop-clause g l =
     (l.self.store.ghost_name ≡ l.initial.self.store.ghost_name)
-    × ((m : ℕ) → loads m (g.S.ClauseStore.held l.self.store.now) l.self.search (to_come l.clauses)
-    ≡ loads m (g.S.ClauseStore.held l.initial.self.store.now) l.initial.self.search (to_come l.initial.clauses))
-
-abbrev pub decreases-loop-clause : goal.decreases-loop-clause
-decreases-loop-clause g l = length (to_come l.clauses)
+    × ((m : ℕ) → loads m (g.S.ClauseStore.held l.self.store.now) l.self.search (to_come l.clause-iterator)
+    ≡ loads m (g.S.ClauseStore.held l.initial.self.store.now) l.initial.self.search (to_come l.initial.clause-iterator))
