@@ -1,9 +1,9 @@
 // Clauses numbered in clause order, for tests and measurements of the stores.
 #![tactic(auto)]
 
-ghost use Rattle.std.specs.Prelude.{◌≡◌, ◌+◌, ◌*◌, ◌^◌, ◌<◌, ◌≤◌, IfOk, vec_len};
+ghost use Rattle.std.specs.Prelude.{◌≡◌, ◌*◌, ◌^◌, ◌<◌, ◌≤◌, IfOk, vec_len};
 ghost use Rattle.clause.specs.Clauses.{lits};
-ghost use Rattle.nth_clause.specs.Digits.{unit, word, nth, InOrder, AtPlaces};
+ghost use Rattle.nth_clause.specs.Digits.{unit, word, nth, fifth_number, InOrder, AtPlaces};
 
 use clause::words::Clause;
 use std::alloc::{AllocError, Global};
@@ -37,17 +37,15 @@ pub fn nth(k: u32) -> Clause
     Clause::of_words(positive, negative).unwrap()
 }
 
-// The clause at place j, from 0, of every fifth in clause order, from number FIRST on.
+// The clause at place j, from 0, of every fifth in clause order, from number FIRST on; the last number is that of 32 bits.
 pub fn fifth<const FIRST: u32>(j: u16) -> Clause
-    requires { FIRST + 5 * 65535 < 2 ^ 32 }
-    ensures { lits result ≡ nth (FIRST + 5 * j) }
+    ensures { lits result ≡ nth (fifth_number FIRST j) }
 {
-    nth(FIRST + 5 * j as u32)
+    nth(FIRST.saturating_add(5 * u32::from(j)))
 }
 
 // The clauses at the first `count` of those places, in clause order.
 pub fn fifths<const FIRST: u32>(heap: Global, count: u16) -> Result<Vec<Clause>, AllocError>
-    requires { FIRST + 5 * 65535 < 2 ^ 32 }
     ensures { IfOk result (λ v. (vec_len v ≡ count) × AtPlaces FIRST v.items count) }
 {
     (0..count).map(fifth::<FIRST>).collect(heap)
