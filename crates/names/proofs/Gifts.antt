@@ -1,13 +1,16 @@
 -- A table as its calls find and leave it.
-use Rattle.std.proofs.Common.{◌≡◌, ℕ, ◌+◌, ◌≤◌, Bool, true, false, cond, List, [], length, get_or, take, Some, None, Ok, Err, Result, sym, refl, ap, ◌∙◌, subst, ap₂, arith}
+use Rattle.std.proofs.Common.{◌≡◌, ℕ, ◌+◌, ◌≤◌, Bool, true, false, cond, List, [], length, get_or, take, Some, None, Option, Ok, Err, Result, sym, refl, ap, ◌∙◌, subst, ap₂, arith}
 use Rattle.std.proofs.lemmas.Bool.{eq-eqb, ne_eqb}
-use Rattle.clause.specs.Refusals.{Told, refused}
+use Rattle.std.specs.Result.{result_ok}
+use Rattle.clause.specs.declared.refusal.Refusal.{Refusal}
+use Rattle.clause.specs.Refusals.{Told, told, refused}
 use Rattle.row.specs.declared.Added.{Added}
 use Rattle.row.specs.declared.Added.TheVariants.{Held, New, Full}
-use Rattle.row.specs.Order.{Sound, seated, used}
+use Rattle.row.specs.Order.{Ascending, seated}
 use Rattle.row.specs.Adds.{Adds}
 use Rattle.names.specs.Bytes.{is_name, naming}
-use Rattle.names.specs.Names.{spelled}
+use Rattle.names.specs.Names.{spelled, spelling}
+use Rattle.names.specs.declared.name.Name.{Name}
 use Rattle.names.specs.Slots.{place, table_of}
 use Rattle.names.specs.Tables.{Table, atom_of, joined, name_answer, word_answer, after_name, after_word, Kept}
 use Rattle.names.specs.declared.slot.NameSlot.{NameSlot}
@@ -17,7 +20,7 @@ use Rattle.names.proofs.Numbers.{Numbered, found_none, found_read, numbered_more
 
 -- the invariant, whole
 pub numbered : (t : NameTable) → Numbered t.row.slots.now t.row.size t.row.places
-numbered t = record { within = t.within; fits = t.fits; few = t.few; rising = t.rising; counted = t.counted; seated = t.seated; single = t.single }
+numbered t = record { within = t.row.within; fits = t.row.fits; few = t.few; rising = t.row.ascends; counted = t.counted; seated = t.seated; single = t.single }
 
 abbrev table : List (List ℕ) → ℕ → Table
 table vs p = record { names = vs; places = p }
@@ -53,6 +56,18 @@ word_bad w d e = go (is_name w) refl e
     go true q e = let z : ◌≡◌ {A = ℕ} 0 1 = cc in absurd (omega arith)
     go false q e = record { bad = q; told = cc }
 
+none_some : {n : Name} → ◌≡◌ {A = Option Name} None (Some n) → ⊥
+none_some e = cc
+
+-- the same of the name that a word was read as, or of none
+pub name_read : (w : List ℕ) (r : Result Name Refusal) (n : Name) → spelling r ≡ naming w → result_ok r ≡ Some n → Good w (spelled n)
+name_read w (Ok m) n e f = let q : m ≡ n = cc in word_good w (spelled n) (ap (λ z. Ok (spelled z)) (sym q) ∙ e)
+name_read w (Err d) n e f = absurd (none_some f)
+
+pub name_unread : (w : List ℕ) (r : Result Name Refusal) → spelling r ≡ naming w → result_ok r ≡ None → is_name w ≡ false
+name_unread w (Ok m) e f = absurd (none_some (sym f))
+name_unread w (Err d) e f = (word_bad w (told d) e).bad
+
 module _ (t : Table) (w : List ℕ) where
   pub answer_bad : is_name w ≡ false → word_answer t w ≡ Err (refused 19 0)
   answer_bad e = rw e
@@ -84,21 +99,22 @@ module _ (xs : List NameSlot) (n p : ℕ) (o : Numbered xs n p) (x : NameSlot) (
   numbered_same : ys ≡ xs → m ≡ n → Numbered ys m q
   numbered_same e f = subst (λ zs. Numbered zs m q) (sym e) (subst (λ k. Numbered xs k q) (sym f) (subst (Numbered xs n) (sym stays) o))
 
-  pub numbered_after : (r : Added) → Adds place xs n p x r ys m → Sound place ys m q → Numbered ys m q
-  numbered_after (Held i) a s = numbered_same a.1 a.2
-  numbered_after (New i) a s =
+  pub numbered_after : (r : Added) → Adds place xs n p x r ys m → q ≤ length ys → Ascending place ys m → Numbered ys m q
+  numbered_after (Held i) a f s = numbered_same a.1 a.2
+  numbered_after (New i) a f s =
+      let fits : p ≤ length (seated xs n i x) = omega (arith, ap length a.3) in
+      let ascends : Ascending place (seated xs n i x) (n + 1) = subst (λ k. Ascending place (seated xs n i x) k) a.4 (subst (λ zs. Ascending place zs m) a.3 s) in
       subst (λ zs. Numbered zs m q) (sym a.3) (subst (λ k. Numbered (seated xs n i x) k q) (sym a.4) (subst (Numbered (seated xs n i x) (n + 1)) (sym stays)
-      (numbered_more xs n p o i x a.1.within a.2 num
-      (subst (Sound place (seated xs n i x) (n + 1)) stays (subst (λ k. Sound place (seated xs n i x) k q) a.4 (subst (λ zs. Sound place zs m q) a.3 s))))))
-  numbered_after Full a s = numbered_same a.2 a.3
+      (numbered_more xs n p o i x a.1.within a.2 num fits ascends)))
+  numbered_after Full a f s = numbered_same a.2 a.3
 
   -- the answer and the table, where the name v of x is held, where it is new, and where it finds no place
   abbrev Gift : List ℕ → Result ℕ Told → Type 0
   Gift v r = (r ≡ name_answer (table_of xs n p) (atom_of (table_of xs n p) v)) × (table_of ys m q ≡ after_name (table_of xs n p) v (atom_of (table_of xs n p) v))
 
-  pub gift_held : (i : ℕ) → Adds place xs n p x (Held i) ys m → (ps : List NameSlot) → ps ≡ take (used ys m q) ys → (z : NameSlot) (k : ℕ) → z ≡ get_or ps i z → k ≡ z.atom → Gift (spelled x.name) (Ok k)
+  pub gift_held : (i : ℕ) → Adds place xs n p x (Held i) ys m → (ps : List NameSlot) → ps ≡ take m ys → (z : NameSlot) (k : ℕ) → z ≡ get_or ps i z → k ≡ z.atom → Gift (spelled x.name) (Ok k)
   gift_held i a ps e z k r f =
-      let s : ps ≡ take (used xs n p) xs = e ∙ ap (λ y. take (used y m q) y) a.1 ∙ ap (λ j. take (used xs j q) xs) a.2 ∙ ap (λ j. take (used xs n j) xs) stays in
+      let s : ps ≡ take n xs = e ∙ ap (take m) a.1 ∙ ap (λ j. take j xs) a.2 in
       let g = word_found (table_of xs n p) (spelled x.name) k (found_read xs n p o x ps i z k s a.0 r f) in
       (sym g.0, table_same a.1 a.2 ∙ sym g.1)
 

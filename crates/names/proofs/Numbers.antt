@@ -5,12 +5,11 @@ use Rattle.std.proofs.lemmas.List.{get_or_default, get_or-take, length-take-le, 
 use Rattle.std.proofs.lemmas.Option.{slice_get-get_or, slice_get_past}
 use Rattle.std.proofs.lemmas.Bool.{cases_lt, cases_order, both_ways}
 use Rattle.std.specs.List.{insert}
-use Rattle.row.specs.Order.{Sound, Lacks, Holds, seated, used}
-use Rattle.row.proofs.Additions.{used_all}
+use Rattle.row.specs.Order.{Ascending, Lacks, Holds, seated}
 use Rattle.row.proofs.Seats.{came}
 use Rattle.names.specs.Bytes.{is_name, rank}
 use Rattle.names.specs.Names.{spelled}
-use Rattle.names.specs.Slots.{vacant, place, holder, names_to, table_of, Rising, Counted, Seated, Single}
+use Rattle.names.specs.Slots.{vacant, place, holder, names_to, table_of, Counted, Seated, Single}
 use Rattle.names.specs.Tables.{name_at, atom_of, Kept}
 use Rattle.names.specs.declared.slot.NameSlot.{NameSlot}
 use Rattle.names.proofs.Finds.{find_from_lem, find_none}
@@ -22,7 +21,7 @@ pub record Numbered (xs : List NameSlot) (n p : ℕ) : Type 0 where
   pub within : n ≤ p
   pub fits : p ≤ length xs
   pub few : p ≤ 64
-  pub rising : Rising xs n
+  pub rising : Ascending place xs n
   pub counted : Counted xs n
   pub seated : Seated xs n
   pub single : Single xs n
@@ -32,22 +31,11 @@ same_name : (x y : NameSlot) → place x ≡ place y → spelled x.name ≡ spel
 same_name x y e = (order_law (spelled x.name) (spelled y.name) x.name.good y.name.good).2 e
 
 module _ (xs : List NameSlot) (n p : ℕ) (o : Numbered xs n p) where
-  -- the records are in order as a row is
-  pub sound : Sound place xs n p
-  sound = record {
-    within = o.within;
-    fits = o.fits;
-    ascends = λ i j d l h.
-        let a = ap place (get_or_default xs i d vacant (omega (arith, o.within, o.fits))) in
-        let b = ap place (get_or_default xs j d vacant (omega (arith, o.within, o.fits))) in
-        omega (arith, o.rising i j (l, h));
-  }
-
   -- two records differ
   places_apart : (i j : ℕ) → i < n → j < n → (i ≡ j → ⊥) → place (get_or xs i vacant) ≡ place (get_or xs j vacant) → ⊥
   places_apart i j a b f e = elim (cases_order i j) [
     | inl q ↦ f q
-    | inr q ↦ elim q [ inl l ↦ omega (arith, o.rising i j (l, b)) | inr l ↦ omega (arith, o.rising j i (l, a)) ]
+    | inr q ↦ elim q [ inl l ↦ omega (arith, o.rising i j vacant l b) | inr l ↦ omega (arith, o.rising j i vacant l a) ]
   ]
 
   length_use : length (take n xs) ≡ n
@@ -134,29 +122,25 @@ module _ (xs : List NameSlot) (n p : ℕ) (o : Numbered xs n p) where
     | inr l ↦ name_past (suc k) (omega arith)
   ]
 
-  -- the records in use, as they are handed on
-  pub in_use : (ps : List NameSlot) → ps ≡ take (used xs n p) xs → ps ≡ take n xs
-  in_use ps e = e ∙ ap (λ k. take k xs) (used_all place xs n p sound)
-
   -- the record z, with its atom k, that was read at i, where a search for x ended
-  pub found_read : (x : NameSlot) (ps : List NameSlot) (i : ℕ) (z : NameSlot) (k : ℕ) → ps ≡ take (used xs n p) xs → Holds place xs n (place x) i → z ≡ get_or ps i z → k ≡ z.atom
+  pub found_read : (x : NameSlot) (ps : List NameSlot) (i : ℕ) (z : NameSlot) (k : ℕ) → ps ≡ take n xs → Holds place xs n (place x) i → z ≡ get_or ps i z → k ≡ z.atom
       → atom_of (table_of xs n p) (spelled x.name) ≡ Some k
   found_read x ps i z k e h r m =
-      let at : z ≡ get_or xs i vacant = r ∙ ap (λ ys. get_or ys i z) (in_use ps e) ∙ get_or-take n xs i z h.0 ∙ get_or_default xs i z vacant (omega (arith, h.0, o.within, o.fits)) in
+      let at : z ≡ get_or xs i vacant = r ∙ ap (λ ys. get_or ys i z) e ∙ get_or-take n xs i z h.0 ∙ get_or_default xs i z vacant (omega (arith, h.0, o.within, o.fits)) in
       found_at (spelled x.name) i h.0 (same_name (get_or xs i vacant) x (h.1 vacant)) ∙ ap Some (sym (m ∙ ap (λ y. y.atom) at))
 
   -- the record z of the atom k that was read at i
-  pub name_read : (k : ℕ) (ps : List NameSlot) (i : ℕ) (z : NameSlot) → ps ≡ take (used xs n p) xs → i < length ps → (get_or ps i vacant).atom ≡ k → z ≡ get_or ps i z
+  pub name_read : (k : ℕ) (ps : List NameSlot) (i : ℕ) (z : NameSlot) → ps ≡ take n xs → i < length ps → (get_or ps i vacant).atom ≡ k → z ≡ get_or ps i z
       → name_at (table_of xs n p) k ≡ Some (spelled z.name)
   name_read k ps i z e l a r =
-      let l' : i < n = omega (arith, ap length (in_use ps e), length_use) in
-      let at : get_or ps i vacant ≡ get_or xs i vacant = ap (λ ys. get_or ys i vacant) (in_use ps e) ∙ get_or-take n xs i vacant l' in
+      let l' : i < n = omega (arith, ap length e, length_use) in
+      let at : get_or ps i vacant ≡ get_or xs i vacant = ap (λ ys. get_or ys i vacant) e ∙ get_or-take n xs i vacant l' in
       let at' : z ≡ get_or xs i vacant = r ∙ get_or_default ps i z vacant l ∙ at in
       name_of_record k i l' (ap (λ y. y.atom) (sym at) ∙ a) ∙ ap (λ y. Some (spelled y.name)) (sym at')
 
-  pub name_unread : (k : ℕ) (ps : List NameSlot) → ps ≡ take (used xs n p) xs → ((i : ℕ) → i < length ps → (get_or ps i vacant).atom ≡ k → ⊥) → name_at (table_of xs n p) k ≡ None
+  pub name_unread : (k : ℕ) (ps : List NameSlot) → ps ≡ take n xs → ((i : ℕ) → i < length ps → (get_or ps i vacant).atom ≡ k → ⊥) → name_at (table_of xs n p) k ≡ None
   name_unread k ps e f = name_none k (λ i l a.
-      f i (omega (arith, ap length (in_use ps e), length_use)) (ap (λ ys. (get_or ys i vacant).atom) (in_use ps e) ∙ ap (λ y. y.atom) (get_or-take n xs i vacant l) ∙ a))
+      f i (omega (arith, ap length e, length_use)) (ap (λ ys. (get_or ys i vacant).atom) e ∙ ap (λ y. y.atom) (get_or-take n xs i vacant l) ∙ a))
 
   -- ---- one record more, x with the next atom, put in at its seat i
 
@@ -179,12 +163,12 @@ module _ (xs : List NameSlot) (n p : ℕ) (o : Numbered xs n p) where
         let q : get_or (take i (take n xs)) j vacant ≡ get_or xs j vacant = get_or-take i (take n xs) j vacant m ∙ get_or-take n xs j vacant (omega arith) in
         omega (arith, o.counted j (omega arith), ap (λ y. y.atom) q))
 
-    pub numbered_more : Sound place (seated xs n i x) (n + 1) p → Numbered (seated xs n i x) (n + 1) p
-    numbered_more s = record {
-      within = s.within;
-      fits = s.fits;
+    pub numbered_more : p ≤ length (seated xs n i x) → Ascending place (seated xs n i x) (n + 1) → Numbered (seated xs n i x) (n + 1) p
+    numbered_more fits ascends = record {
+      within = omega arith;
+      fits = fits;
       few = o.few;
-      rising = λ j k q. s.ascends j k vacant q.0 q.1;
+      rising = ascends;
       counted = λ j l. elim (came xs n i x vacant j b fit l) [
         | inl q ↦ count j j q.1 (omega (arith, q.0))
         | inr q ↦ elim q [

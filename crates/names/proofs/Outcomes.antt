@@ -1,9 +1,10 @@
 -- What a word comes to, and the laws of a table.
-use Rattle.std.proofs.Common.{◌≡◌, ℕ, zero, suc, ◌+◌, ◌<◌, ◌≤◌, Bool, true, false, List, [], ◌∷◌, length, get_or, Some, None, Ok, Err, Option, Result, sym, refl, ap, ◌∙◌, inl, inr, arith}
+use Rattle.std.proofs.Common.{◌≡◌, ℕ, zero, suc, ◌+◌, ◌<◌, ◌≤◌, Bool, true, false, List, [], ◌∷◌, length, get_or, Some, None, Ok, Err, Option, Result, sym, refl, ap, ◌∙◌, subst, inl, inr, arith}
 use Rattle.std.proofs.lemmas.List.{length_push, get_or_push, get_or_append_left}
 use Rattle.std.proofs.lemmas.Option.{slice_get-get_or, slice_get_past}
 use Rattle.std.proofs.lemmas.Bool.{cases_lt, cases_eq}
-use Rattle.clause.specs.Refusals.{Told, refused}
+use Rattle.clause.specs.Refusals.{Told, refused, answer}
+use Rattle.clause.specs.declared.refusal.Refusal.{Refusal}
 use Rattle.names.specs.Bytes.{is_name}
 use Rattle.names.specs.Laws.{InverseLaw, Given, GivenLaw, StaysLaw, RefusedLaw}
 use Rattle.names.specs.Tables.{Table, name_at, atom_of, joined, word_answer, after_word, Kept}
@@ -96,6 +97,10 @@ given_law t h w = go (word_answer t w) refl
     go : (r : Result ℕ Told) → word_answer t w ≡ r → Given (after_word t w) w r
     go (Ok k) e = given_at t h w k e
     go (Err d) e = tt
+
+-- what an answer tells of the atom that it gives
+pub given_told : (t u : Table) (w : List ℕ) (r : Result ℕ Refusal) → Kept t → answer r ≡ word_answer t w → u ≡ after_word t w → Given u w (answer r)
+given_told t u w r h e f = subst (λ v. Given v w (answer r)) (sym f) (subst (Given (after_word t w) w) (sym e) (given_law t h w))
 
 joined_stays : (t : Table) (w v : List ℕ) (k : ℕ) → name_at t k ≡ Some v → name_at (joined t w) k ≡ Some v
 joined_stays t w v k e =

@@ -1,12 +1,10 @@
 -- The number of a name in base 256 tells its place in the order, and the name.
-use Rattle.std.proofs.Common.{◌≡◌, ℕ, zero, suc, ◌+◌, ◌*◌, ◌^◌, ◌<◌, ◌≤◌, true, ◌⊎◌, List, [], ◌∷◌, length, get_or, take, Ordering, Less, Equal, Greater, sym, refl, ap, subst, ap₂, inl, inr, mul-le-mul_right, add-mul, pow-suc, arith}
+use Rattle.std.proofs.Common.{◌≡◌, ℕ, zero, suc, ◌+◌, ◌*◌, ◌^◌, ◌<◌, ◌≤◌, true, ◌⊎◌, List, [], ◌∷◌, length, get_or, take, Ordering, Less, Equal, Greater, sym, refl, ap, ap₂, inl, inr, mul-le-mul_right, arith}
 use native.Mathlib.Nat.{one-le-pow}
 use Rattle.std.proofs.lemmas.Bool.{cases_order}
-use Rattle.std.specs.Ordering.{MatchOrdering, nat_cmp, ordering_then}
-use Rattle.std.specs.Cmp.{ranks}
-use Rattle.std.specs.Cmp.Lexicographic.{slice_cmp}
-use Rattle.row.specs.Order.{Compares}
+use Rattle.clause.specs.Order.{Compares}
 use Rattle.names.specs.Bytes.{is_name, Before, ByBytes, worth, rank, OrderLaw}
+use Rattle.names.specs.Keyed.{ahead, worth_bound}
 use Rattle.names.proofs.Spellings.{Digits, named}
 
 -- ---- the order by bytes, from the first byte on
@@ -27,23 +25,6 @@ further x y xs ys e b =
       less = elim b.less [ inl p ↦ inl (omega arith) | inr p ↦ inr (omega (arith, p.0), p.1) ];
     }
 
--- what a comparison of two words answers is their order by bytes
-pub by_bytes : (xs ys : List ℕ) (r : Ordering) → r ≡ slice_cmp nat_cmp xs ys → ByBytes xs ys r
-by_bytes [] [] r h = subst (ByBytes [] []) (sym h) refl
-by_bytes [] (y ∷ ys) r h = subst (ByBytes [] (y ∷ ys)) (sym h) (shorter y ys)
-by_bytes (x ∷ xs) [] r h = subst (ByBytes (x ∷ xs) []) (sym h) (shorter x xs)
-by_bytes (x ∷ xs) (y ∷ ys) r h = first (nat_cmp x y) (ranks x y) (by_bytes xs ys r) h
-  where
-    more : (r : Ordering) → x ≡ y → ByBytes xs ys r → ByBytes (x ∷ xs) (y ∷ ys) r
-    more Less p h = further x y xs ys p h
-    more Equal p h = ap₂ (λ a b. a ∷ b) p h
-    more Greater p h = further y x ys xs (sym p) h
-
-    first : (o : Ordering) → MatchOrdering o (x < y) (x ≡ y) (y < x) → (r ≡ slice_cmp nat_cmp xs ys → ByBytes xs ys r) → r ≡ ordering_then o (slice_cmp nat_cmp xs ys) → ByBytes (x ∷ xs) (y ∷ ys) r
-    first Less p rest h = subst (ByBytes (x ∷ xs) (y ∷ ys)) (sym h) (lesser x y xs ys p)
-    first Equal p rest h = more r p (rest h)
-    first Greater p rest h = subst (ByBytes (x ∷ xs) (y ∷ ys)) (sym h) (lesser y x ys xs p)
-
 -- of two words one comes first, or they are the same
 ordered : (v w : List ℕ) → (v ≡ w) ⊎ (Before v w ⊎ Before w v)
 ordered [] [] = inl refl
@@ -62,21 +43,6 @@ ordered (x ∷ xs) (y ∷ ys) = elim (cases_order x y) [
 later : (b : ℕ) (bs : List ℕ) → Digits (b ∷ bs) → Digits bs
 later b bs d k l = d (suc k) (omega arith)
 
--- a lower digit in front weighs more than all that follows
-ahead : (d e m r s : ℕ) → d < e → r < m → d * m + r < e * m + s
-ahead d e m r s l b =
-    let h : d + 1 ≤ e = omega arith in
-    omega (arith, mul-le-mul_right m h, add-mul d 1 m)
-
-worth_bound : (k : ℕ) (w : List ℕ) → Digits w → worth k w < 256 ^ k
-unfolding worth
-worth_bound zero w d = omega arith
-worth_bound (suc k) [] d = one-le-pow (suc k) 256 (omega arith)
-worth_bound (suc k) (b ∷ bs) d =
-    let ih = worth_bound k bs (later b bs d) in
-    let l : b + 1 ≤ 256 = omega (arith, (d 0 (omega arith)).1) in
-    omega (arith, mul-le-mul_right (256 ^ k) l, add-mul b 1 (256 ^ k), pow-suc 256 k)
-
 -- a name's first digit counts
 worth_some : (k b : ℕ) (bs : List ℕ) → 0 < b → 0 < worth (suc k) (b ∷ bs)
 unfolding worth
@@ -93,7 +59,7 @@ worth_before (suc k) (x ∷ xs) (y ∷ ys) dv dw lv lw b =
     go : (Before xs ys → worth k xs < worth k ys) → (p : ℕ) → take p (x ∷ xs) ≡ take p (y ∷ ys) → p < length (y ∷ ys)
         → (length (x ∷ xs) ≡ p) ⊎ ((p < length (x ∷ xs)) × (get_or (x ∷ xs) p 0 < get_or (y ∷ ys) p 0)) → x * 256 ^ k + worth k xs < y * 256 ^ k + worth k ys
     go ih zero a l (inl e) = absurd (omega arith)
-    go ih zero a l (inr q) = ahead x y (256 ^ k) (worth k xs) (worth k ys) q.1 (worth_bound k xs (later x xs dv))
+    go ih zero a l (inr q) = ahead x y (256 ^ k) (worth k xs) (worth k ys) q.1 (worth_bound k xs (λ j h. (later x xs dv j h).1))
     go ih (suc p) a l q =
         let e : x ≡ y = cc in
         let f : take p xs ≡ take p ys = cc in
@@ -116,7 +82,8 @@ order_law v w e f = (rank_before v w e f, back (ordered v w), same (ordered v w)
     same (inr (inl b)) l = absurd (omega (arith, rank_before v w e f b))
     same (inr (inr b)) l = absurd (omega (arith, rank_before w v f e b))
 
-pub by_ranks : (v w : List ℕ) (r : Ordering) → is_name v ≡ true → is_name w ≡ true → ByBytes v w r → Compares (rank v) (rank w) r
-by_ranks v w Less e f h = rank_before v w e f h
-by_ranks v w Equal e f h = ap rank h
-by_ranks v w Greater e f h = rank_before w v f e h
+-- what a comparison of the numbers of two names answers is their order by bytes
+pub by_ranks : (v w : List ℕ) (r : Ordering) → is_name v ≡ true → is_name w ≡ true → Compares (rank v) (rank w) r → ByBytes v w r
+by_ranks v w Less e f h = (order_law v w e f).1 h
+by_ranks v w Equal e f h = (order_law v w e f).2 h
+by_ranks v w Greater e f h = (order_law w v f e).1 h

@@ -2,6 +2,7 @@
 use Rattle.std.specs.Prelude.{◌≡◌, ℕ, zero, suc, ◌+◌, ◌*◌, ◌^◌, ◌<◌, Bool, true, cond, ◌&&◌, ◌⊎◌, List, [], ◌∷◌, length, take, Ok, Err, Result, nat_le, slice_index}
 use Rattle.std.specs.declared.cmp.Ordering.TheVariants.{Less, Equal, Greater}
 use Rattle.std.specs.declared.cmp.Ordering.{Ordering}
+use Rattle.std.specs.List.{list_all}
 use Rattle.clause.specs.Refusals.{Told, refused}
 
 -- a byte that may stand in a name: 21 to 7E hex
@@ -10,8 +11,7 @@ visible b = nat_le 0x21 b && nat_le b 0x7e
 
 -- every byte of w may
 abbrev pub visibles : List ℕ → Bool
-visibles [] = true
-visibles (b ∷ bs) = visible b && visibles bs
+visibles = list_all visible
 
 -- w is a name: 1 to 16 such bytes
 abbrev pub is_name : List ℕ → Bool

@@ -9,7 +9,7 @@ use Rattle.names.specs.declared.slot.NameSlot.{NameSlot}
 
 -- the name "!", the first in the order
 abbrev pub first : Name
-first = record { bytes = 0x21 ∷ replicate 15 0; len = 1; short = lit≤ tt; good = refl; padded = refl }
+first = record { bytes = 0x21 ∷ replicate 15 0; len = 1; full = refl; short = lit≤ tt; good = refl; padded = refl }
 
 -- a record that holds no atom
 abbrev pub vacant : NameSlot
@@ -33,11 +33,7 @@ names_to (suc k) xs = names_to k xs ++ (spelled (holder (suc k) xs).name ∷ [])
 abbrev pub table_of : List NameSlot → ℕ → ℕ → Table
 table_of xs n p = record { names = names_to n (take n xs); places = p }
 
--- the first n records rise in the order of their names
-abbrev pub Rising : List NameSlot → ℕ → Type 0
-Rising xs n = (i j : ℕ) → (i < j) × (j < n) → place (slice_index_or xs i vacant) < place (slice_index_or xs j vacant)
-
--- each of them has one of the atoms 1 to n
+-- each of the first n records has one of the atoms 1 to n
 abbrev pub Counted : List NameSlot → ℕ → Type 0
 Counted xs n = (i : ℕ) → i < n → (0 < (get_or xs i vacant).atom) × ((get_or xs i vacant).atom ≤ n)
 

@@ -62,10 +62,8 @@ impl<'a> NameTable<'a> {
         ensures beyond { drop (held self.old).places (lent self.new) ≡ drop (held self.old).places (lent self.old) }
         ensures lender { self.new.row.slots.ghost_name ≡ self.old.row.slots.ghost_name }
     {
-        match Name::of(word) {
-            Ok(name) => self.give(name),
-            Err(refusal) => Err(refusal),
-        }
+        let name = Name::try_from(word)?;
+        self.give(name)
     }
 
     // The same of a word that is a name.
@@ -89,13 +87,9 @@ impl<'a> NameTable<'a> {
         ensures value { result ≡ atom_of (held self.now) word.now }
         ensures inverse { Inverse (held self.now) word.now result }
     {
-        let Ok(name) = Name::of(word) else {
-            return None;
-        };
-        match self.row.find(&NameSlot::sought(name)) {
-            Some(i) => Some(self.row.records()[i].atom()),
-            None => None,
-        }
+        let name = Name::try_from(word).ok()?;
+        let i = self.row.find(&NameSlot::sought(name))?;
+        Some(self.row.records()[i].atom())
     }
 
     // The name of the atom, nothing where no name has it.
@@ -103,10 +97,8 @@ impl<'a> NameTable<'a> {
         ensures { spelled_in result ≡ name_at (held self.now) atom }
     {
         let records = self.row.records();
-        match seat_of(records, atom) {
-            Some(i) => Some(records[i].name()),
-            None => None,
-        }
+        let i = seat_of(records, atom)?;
+        Some(records[i].name())
     }
 }
 
@@ -124,10 +116,5 @@ fn row_in<'a>(slots: &'a mut [NameSlot]) -> Row<'a, NameSlot>
 fn seat_of(records: &[NameSlot], atom: u8) -> Option<usize>
     ensures { MatchOption result (Absent records.now (length records.now) atom) (λ i. HasAtom records.now i atom) }
 {
-    for i in 0..records.len() {
-        if records[i].has(atom) {
-            return Some(i);
-        }
-    }
-    None
+    records.iter().position(|record| record.has(atom))
 }

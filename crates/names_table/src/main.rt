@@ -72,10 +72,10 @@ fn print_size(rt: &HostRuntime, table: &NameTable<'_>) -> io::Result<()> {
 }
 
 fn print_order(rt: &HostRuntime, a: &[u8], b: &[u8]) -> io::Result<()> {
-    let Ok(a) = Name::of(a) else {
+    let Ok(a) = Name::try_from(a) else {
         return println!(rt; " ?");
     };
-    let Ok(b) = Name::of(b) else {
+    let Ok(b) = Name::try_from(b) else {
         return println!(rt; " ?");
     };
     match a.compare(&b) {

@@ -1,2 +1,2 @@
 pub mod Seats
-pub mod Additions
+pub mod Search

@@ -1,12 +1,12 @@
 -- What a record put into its seat leaves.
-use Rattle.std.proofs.Common.{◌≡◌, ℕ, suc, ◌+◌, ◌-◌, ◌<◌, ◌≤◌, ◌⊎◌, List, [], ◌∷◌, ◌++◌, length, get_or, take, drop, set, Ordering, Less, Equal, Greater, sym, refl, ap, ◌∙◌, ap₂, inl, inr, ⊎_elim, append_assoc, arith, length-append, length-drop}
+use Rattle.std.proofs.Common.{◌≡◌, ℕ, suc, ◌+◌, ◌-◌, ◌<◌, ◌≤◌, ◌⊎◌, List, [], ◌∷◌, ◌++◌, length, get_or, take, drop, set, sym, refl, ap, ◌∙◌, subst, ap₂, inl, inr, append_assoc, arith, length-append, length-drop}
 use lib.Seq.{paste}
-use Rattle.std.proofs.lemmas.List.{take-take, drop_all, set_split, set-append_left, length-take-le, get_or_read, get_or_append_left, get_or-take}
+use Rattle.std.proofs.lemmas.List.{take-take, drop_all, set_split, set-append_left, length-take-le, get_or_append_left, get_or-take}
 use Rattle.std.proofs.lemmas.Slice.{between_is, drop-append-drop}
-use Rattle.std.proofs.lemmas.Bool.{cases_lt, cases_order}
+use Rattle.std.proofs.lemmas.Bool.{cases_order}
 use Rattle.std.proofs.lemmas.List.Edits.{length-insert, get_or-insert_below, get_or-insert_at, get_or-insert_above}
 use Rattle.std.specs.List.{insert}
-use Rattle.row.specs.Order.{seated, Ascending, Compares, Seat, Under, Over, Lacks}
+use Rattle.row.specs.Order.{seated, Ascending, Seat, Lacks}
 
 -- the records from i on moved up by one, and x written at i
 pub shifted : {X : Type 0} (xs : List X) (n i : ℕ) (x : X) → i ≤ n → n < length xs → set (paste xs (i + 1) (drop i xs) (n - i)) i x ≡ seated xs n i x
@@ -21,44 +21,6 @@ shifted xs n i x l h =
     (set-append_left (take (i + 1) xs) (take (n - i) (drop i xs)) i x (omega arith)
     ∙ ap₂ (λ a b. a ++ b) front (between_is xs i n) ∙ append_assoc (take i (take n xs)) (x ∷ []) (drop i (take n xs)))
     (ap (λ k. drop k xs) e)
-
--- what a look at the record m at mid says of those on its side
-pub under_read : {R : Type 0} (key : R → ℕ) (xs : List R) (n k mid : ℕ) (m : R) → Ascending key xs n → mid < n → n ≤ length xs → m ≡ get_or xs mid m
-    → key m < k → Under key xs (mid + 1) k
-under_read key xs n k mid m up l f e h j d b =
-    let at : key m ≡ key (get_or xs mid d) = ap key (get_or_read xs mid m (omega arith) e d) in
-    ⊎_elim (λ (s : j < mid). omega (arith, up j mid d s l))
-    (λ (s : mid ≤ j). let i : j ≡ mid = omega arith in omega (arith, ap (λ i. key (get_or xs i d)) i)) (cases_lt j mid)
-
-pub over_read : {R : Type 0} (key : R → ℕ) (xs : List R) (n k mid : ℕ) (m : R) → Ascending key xs n → mid < n → n ≤ length xs → m ≡ get_or xs mid m
-    → k ≤ key m → Over key xs mid n k
-over_read key xs n k mid m up l f e h j d b t =
-    let at : key m ≡ key (get_or xs mid d) = ap key (get_or_read xs mid m (omega arith) e d) in
-    ⊎_elim (λ (s : mid < j). omega (arith, up mid j d s t))
-    (λ (s : j ≤ mid). let i : j ≡ mid = omega arith in omega (arith, ap (λ i. key (get_or xs i d)) i)) (cases_lt mid j)
-
-pub not_less : (a b : ℕ) (o : Ordering) → Compares a b o → (o ≡ Less → ⊥) → b ≤ a
-not_less a b Less h n = absurd (n refl)
-not_less a b Equal h n = omega arith
-not_less a b Greater h n = omega arith
-
--- no record among the first n has the key of x, where the one in its seat has another
-pub none_read : {R : Type 0} (key : R → ℕ) (xs : List R) (n k i : ℕ) (m : R) (o : Ordering) → Ascending key xs n → Seat key xs n k i → i < n → n ≤ length xs → m ≡ get_or xs i m
-    → Compares (key m) k o → (o ≡ Equal → ⊥) → Lacks key xs n k
-none_read key xs n k i m o up s l f e h ne j d b q =
-    let at : key m ≡ key (get_or xs i d) = ap key (get_or_read xs i m (omega arith) e d) in
-    ⊎_elim (λ (t : j < i). omega (arith, s.under j d t))
-    (λ (t : i ≤ j). ⊎_elim (λ (u : i < j). omega (arith, s.over i d (omega arith) l, up i j d u b))
-    (λ (u : j ≤ i). let v : j ≡ i = omega arith in equal o h ne (omega (arith, ap (λ i. key (get_or xs i d)) v)) (omega (arith, s.over i d (omega arith) l))) (cases_lt i j)) (cases_lt j i)
-  where
-    equal : (o : Ordering) → Compares (key m) k o → (o ≡ Equal → ⊥) → key m ≡ k → k ≤ key (get_or xs i d) → ⊥
-    equal Less h ne v w = omega arith
-    equal Equal h ne v w = ne refl
-    equal Greater h ne v w = omega arith
-
--- nor where the seat is past the last
-pub none_past : {R : Type 0} (key : R → ℕ) (xs : List R) (n k i : ℕ) → Seat key xs n k i → i ≡ n → Lacks key xs n k
-none_past key xs n k i s e j d b q = omega (arith, s.under j d (omega arith))
 
 -- the records after x is put in at i, by their places
 in_front : {R : Type 0} (xs : List R) (n i : ℕ) (x d : R) (j : ℕ) → i ≤ n → n < length xs → j < n + 1 → get_or (seated xs n i x) j d ≡ get_or (insert (take n xs) i x) j d
@@ -137,3 +99,24 @@ pub drop_seated : {R : Type 0} (xs : List R) (n i : ℕ) (x : R) (p : ℕ) → i
 drop_seated xs n i x p l h b =
     let t = length-take-le n xs (omega arith) in
     drop-append-drop (n + 1) xs (insert (take n xs) i x) p (omega arith) (omega (arith, length-insert (take n xs) i x (omega arith)))
+
+-- what a new record x, put in at its seat i, leaves of a row with a free place: n of the slots xs were in use, and p may be
+pub record Entered {R : Type 0} (key : R → ℕ) (xs : List R) (n p : ℕ) (x : R) (i : ℕ) (ys : List R) : Type 0 where
+  pub within : n + 1 ≤ p
+  pub fits : p ≤ length ys
+  pub ascends : Ascending key ys (n + 1)
+  pub slots : ys ≡ seated xs n i x
+  pub beyond : drop p ys ≡ drop p xs
+
+pub entered : {R : Type 0} (key : R → ℕ) (xs : List R) (n p : ℕ) → n < p → p ≤ length xs → Ascending key xs n → (x : R) (i : ℕ) → Lacks key xs n (key x) → Seat key xs n (key x) i
+    → (zs : List R) → zs ≡ paste xs (i + 1) (drop i xs) (n - i) → Entered key xs n p x i (set zs i x)
+entered key xs n p w f up x i new seat zs e =
+    let free : n < length xs = omega arith in
+    let put : set zs i x ≡ seated xs n i x = ap (λ ys. set ys i x) e ∙ shifted xs n i x seat.within free in
+    subst (Entered key xs n p x i) (sym put) (record {
+      within = omega arith;
+      fits = omega (arith, length_seated xs n i x seat.within free);
+      ascends = ascending_seated key xs n i x up free new seat;
+      slots = refl;
+      beyond = drop_seated xs n i x p seat.within free w;
+    })

@@ -1,32 +1,10 @@
 -- Records in the order of their keys, at the front of a slice.
-use Rattle.std.specs.Prelude.{◌≡◌, ℕ, ◌+◌, ◌<◌, ◌≤◌, min, List, ◌++◌, length, take, drop, ◌≢◌, slice_index_or}
-use Rattle.std.specs.declared.cmp.Ordering.TheVariants.{Less, Equal, Greater}
-use Rattle.std.specs.declared.cmp.Ordering.{Ordering}
+use Rattle.std.specs.Prelude.{◌≡◌, ℕ, ◌+◌, ◌<◌, ◌≤◌, List, ◌++◌, take, drop, ◌≢◌, slice_index_or}
 use Rattle.std.specs.List.{insert}
-
--- r is the answer that compares the numbers a and b
-abbrev pub Compares : ℕ → ℕ → Ordering → Type 0
-Compares a b Less = a < b
-Compares a b Equal = a ≡ b
-Compares a b Greater = b < a
 
 -- the keys of the first n of xs rise
 abbrev pub Ascending : {R : Type 0} → (R → ℕ) → List R → ℕ → Type 0
 Ascending {R} key xs n = (i j : ℕ) (d : R) → i < j → j < n → key (slice_index_or xs i d) < key (slice_index_or xs j d)
-
--- xs is a row in order: it may use p of the slots, and n of them are in use
-pub record Sound {R : Type 0} (key : R → ℕ) (xs : List R) (n p : ℕ) : Type 0 where
-  pub within : n ≤ p
-  pub fits : p ≤ length xs
-  pub ascends : Ascending key xs n
-
--- how many slots of xs a row may use that claims p of them
-abbrev pub room : {R : Type 0} → List R → ℕ → ℕ
-room xs p = min p (length xs)
-
--- how many slots of xs are in use, of the n that a row of p places claims
-abbrev pub used : {R : Type 0} → List R → ℕ → ℕ → ℕ
-used xs n p = min n (room xs p)
 
 -- the keys in front of i are less than k
 abbrev pub Under : {R : Type 0} → (R → ℕ) → List R → ℕ → ℕ → Type 0

@@ -4,15 +4,14 @@ use Rattle.std.proofs.lemmas.List.{get_or_default, get_or-take, length-take-le}
 use Rattle.std.proofs.lemmas.Bool.{cases_lt, cases_order, le-leb, lt-leb, not-true, not-false, both_ways}
 use Rattle.clause.specs.Refusals.{refused}
 use Rattle.clause.specs.declared.words.Clause.{Clause}
-use Rattle.clause.specs.Clauses.{lits, makes, same}
+use Rattle.clause.specs.Clauses.{Words, lits, makes, same}
 use Rattle.clause.specs.Order.{rank}
 use Rattle.store.specs.declared.entry.Entry.{Entry}
 use Rattle.store.specs.Held.{Held, clause_at, found, least_false, put_answer, after_put, pushed}
-use Rattle.row.specs.Order.{Sound, Lacks, Holds, seated, used}
-use Rattle.row.proofs.Additions.{used_all}
+use Rattle.row.specs.Order.{Ascending, Lacks, Holds, seated}
 use Rattle.row.proofs.Seats.{below_seat, at_seat, above_seat, came}
 use Rattle.row_store.specs.declared.slot.Slot.{Slot}
-use Rattle.row_store.specs.Seats.{vacant, Words, record_of, entry_of, place, sitting, arrivals, held_of, Ordered, moved, MakesWay, AllTrue, FirstFalse}
+use Rattle.row_store.specs.Seats.{vacant, entry_of, place, sitting, arrivals, held_of, Ordered, moved, MakesWay, AllTrue, FirstFalse}
 use Rattle.row_store.specs.Keeps.{length_arrivals, clause_at_lem, rank_at, seats_apart, places_apart}
 use Rattle.store.proofs.Finds.{find_none, find_from_lem}
 use Rattle.store.proofs.Leasts.{least_none, least_is}
@@ -21,17 +20,6 @@ use Rattle.store.proofs.Sames.{same_rank, other_rank, rank_same}
 use Rattle.row_store.proofs.Arrivals.{arrivals_more}
 
 module _ (xs : List Slot) (ss : List ℕ) (n p : ℕ) (o : Ordered xs ss n p) where
-  -- the records are in order as a row is
-  pub sound : Sound place xs n p
-  sound = record {
-    within = o.within;
-    fits = o.fits;
-    ascends = λ i j d l h.
-        let a = ap place (get_or_default xs i d vacant (omega (arith, o.within, o.fits))) in
-        let b = ap place (get_or_default xs j d vacant (omega (arith, o.within, o.fits))) in
-        omega (arith, o.rising i j (l, h));
-  }
-
   -- ---- from a record to its entry
 
   -- the index of the record at i
@@ -92,21 +80,17 @@ module _ (xs : List Slot) (ss : List ℕ) (n p : ℕ) (o : Ordered xs ss n p) wh
         | inl z ↦ absurd (other_seat i k l a ne z)
         | inr z ↦ elim z [
           | inl z ↦ absurd (both_ways _ q (truth_at v k a ∙ ap (λ x. makes v (lits x.clause)) (sym (at (get_or ss k 0) s)) ∙ not-false _ (f.3 (get_or ss k 0) (omega arith) z)))
-          | inr z ↦ omega (arith, o.rising i (get_or ss k 0) (z, s), rank_at xs ss n p o k a, ap (λ c. rank (lits c)) (clause_back i l))
+          | inr z ↦ omega (arith, o.rising i (get_or ss k 0) vacant z s, rank_at xs ss n p o k a, ap (λ c. rank (lits c)) (clause_back i l))
         ]
       ]))
       ∙ ap Some (index_number i l) ∙ ap (λ x. Some x.number) (sym (at i l))
 
-  -- the records in use, as they are handed on
-  pub in_use : (ps : List Slot) → ps ≡ take (used xs n p) xs → ps ≡ take n xs
-  in_use ps e = e ∙ ap (λ k. take k xs) (used_all place xs n p sound)
-
   -- the record z, with its number k, that was read at i, where a search for x ended
-  pub found_read : (c : Clause) (x : Slot) (ps : List Slot) (i : ℕ) (z : Slot) (k : ℕ) → ps ≡ take (used xs n p) xs → Holds place xs n (place x) i → x.clause ≡ c
-      → z ≡ get_or ps i z → k ≡ z.number → Words z.clause → Words c → Some k ≡ found (held_of xs ss n p) c
-  found_read c x ps i z k e h q r m f g =
-      let at : z ≡ get_or xs i vacant = r ∙ ap (λ ys. get_or ys i z) (in_use ps e) ∙ get_or-take n xs i z h.0 ∙ get_or_default xs i z vacant (omega (arith, h.0, o.within, o.fits)) in
-      let t : same z.clause c ≡ true = rank_same z.clause c f g (ap place at ∙ h.1 vacant ∙ ap (λ d. rank (lits d)) q) in
+  pub found_read : (c : Clause) (x : Slot) (ps : List Slot) (i : ℕ) (z : Slot) (k : ℕ) → ps ≡ take n xs → Holds place xs n (place x) i → x.clause ≡ c
+      → z ≡ get_or ps i z → k ≡ z.number → Some k ≡ found (held_of xs ss n p) c
+  found_read c x ps i z k e h q r m =
+      let at : z ≡ get_or xs i vacant = r ∙ ap (λ ys. get_or ys i z) e ∙ get_or-take n xs i z h.0 ∙ get_or_default xs i z vacant (omega (arith, h.0, o.within, o.fits)) in
+      let t : same z.clause c ≡ true = rank_same z.clause c z.words (subst Words q x.words) (ap place at ∙ h.1 vacant ∙ ap (λ d. rank (lits d)) q) in
       ap Some (m ∙ ap (λ y. y.number) at) ∙ sym (found_at c i h.0 (ap (λ y. same y.clause c) (sym at) ∙ t))
 
   pub found_lacks : (c : Clause) (x : Slot) → Lacks place xs n (place x) → x.clause ≡ c → None ≡ found (held_of xs ss n p) c
@@ -119,8 +103,8 @@ module _ (xs : List Slot) (ss : List ℕ) (n p : ℕ) (o : Ordered xs ss n p) wh
     held_same = ap (λ z. held_of z ss m q) left ∙ ap (λ j. held_of xs ss j q) size ∙ ap (held_of xs ss n) stays
 
     -- the records in use are those of before
-    pub same_records : (ps : List Slot) → ps ≡ take (used ys m q) ys → ps ≡ take (used xs n p) xs
-    same_records ps r = r ∙ ap (λ z. take (used z m q) z) left ∙ ap (λ j. take (used xs j q) xs) size ∙ ap (λ j. take (used xs n j) xs) stays
+    pub same_records : (ps : List Slot) → ps ≡ take m ys → ps ≡ take n xs
+    same_records ps r = r ∙ ap (take m) left ∙ ap (λ j. take j xs) size
 
     pub put_held : (k : ℕ) → Some k ≡ found (held_of xs ss n p) e.clause → (Ok k ≡ put_answer (held_of xs ss n p) e) × (held_of ys ss m q ≡ after_put (held_of xs ss n p) e)
     put_held k f = let r = put_found (held_of xs ss n p) e k (sym f) in (sym r.0, held_same ∙ sym r.1)
@@ -157,13 +141,13 @@ module _ (xs : List Slot) (ss : List ℕ) (n p : ℕ) (o : Ordered xs ss n p) wh
     seat_again : (m j k : ℕ) → 0 < m → m ≤ n → get_or ss (m - 1) 0 ≡ j → moved i j ≡ k → get_or ts (m - 1) 0 ≡ k
     seat_again m j k z l e f = w.others (m - 1) (omega arith) ∙ ap (moved i) e ∙ f
 
-    pub ordered_more : Sound place (seated xs n i x) (n + 1) p → Ordered (seated xs n i x) ts (n + 1) p
-    ordered_more s = record {
-      within = s.within;
-      fits = s.fits;
+    pub ordered_more : p ≤ length (seated xs n i x) → Ascending place (seated xs n i x) (n + 1) → Ordered (seated xs n i x) ts (n + 1) p
+    ordered_more fits ascends = record {
+      within = omega arith;
+      fits = fits;
       benches = omega (arith, w.same_length, o.benches);
       few = o.few;
-      rising = λ j k q. s.ascends j k vacant q.0 q.1;
+      rising = ascends;
       seated = λ k l. elim (cases_lt k n) [
         | inl q ↦ subst (λ t. t < n + 1) (sym (w.others k q)) (moved_within (get_or ss k 0) (o.seated k q))
         | inr q ↦ let e : k ≡ n = omega arith in omega (arith, ap (λ j. get_or ts j 0) e, w.own)
@@ -198,12 +182,13 @@ module _ (xs : List Slot) (ss : List ℕ) (n p : ℕ) (o : Ordered xs ss n p) wh
     pub held_more : arrivals (seated xs n i x) ts (n + 1) ≡ arrivals xs ss n ++ (entry_of x ∷ [])
     held_more = arrivals_more xs (seated xs n i x) ss ts n x others_sit own_sits
 
-    -- the same of what an addition left, with k for the number
-    module _ (e : Entry) (k : ℕ) (is : x ≡ record_of e k) (new : Lacks place xs n (place x)) (ys : List Slot) (m q : ℕ) (left : ys ≡ seated xs n i x) (grows : m ≡ n + 1) (stays : q ≡ p) where
-      pub ordered_put : Sound place ys m q → Ordered ys ts m q
-      ordered_put s =
-          subst (λ z. Ordered z ts m q) (sym left) (subst (λ j. Ordered (seated xs n i x) ts j q) (sym grows) (subst (λ j. Ordered (seated xs n i x) ts (n + 1) j) (sym stays)
-          (ordered_more (subst (λ j. Sound place (seated xs n i x) (n + 1) j) stays (subst (λ j. Sound place (seated xs n i x) j q) grows (subst (λ z. Sound place z m q) left s))))))
+    -- the same of what an addition left
+    module _ (e : Entry) (is : entry_of x ≡ e) (new : Lacks place xs n (place x)) (ys : List Slot) (m q : ℕ) (left : ys ≡ seated xs n i x) (grows : m ≡ n + 1) (stays : q ≡ p) where
+      pub ordered_put : q ≤ length ys → Ascending place ys m → Ordered ys ts m q
+      ordered_put f s =
+          let fits : p ≤ length (seated xs n i x) = omega (arith, ap length left) in
+          let ascends : Ascending place (seated xs n i x) (n + 1) = subst (Ascending place (seated xs n i x)) grows (subst (λ z. Ascending place z m) left s) in
+          subst (λ z. Ordered z ts m q) (sym left) (subst (λ j. Ordered (seated xs n i x) ts j q) (sym grows) (subst (λ j. Ordered (seated xs n i x) ts (n + 1) j) (sym stays) (ordered_more fits ascends)))
 
       none : found (held_of xs ss n p) e.clause ≡ None
       none = sym (found_lacks e.clause x new (ap (λ y. y.clause) is))
@@ -217,7 +202,7 @@ module _ (xs : List Slot) (ss : List ℕ) (n p : ℕ) (o : Ordered xs ss n p) wh
       pub after_new : held_of ys ts m q ≡ after_put (held_of xs ss n p) e
       after_new =
           ap (λ z. held_of z ts m q) left ∙ ap (λ j. held_of (seated xs n i x) ts j q) grows ∙ ap (held_of (seated xs n i x) ts (n + 1)) stays
-          ∙ ap (λ es. entries_of es) (held_more ∙ ap (λ y. arrivals xs ss n ++ (entry_of y ∷ [])) is) ∙ sym put_case.1
+          ∙ ap (λ es. entries_of es) (held_more ∙ ap (λ y. arrivals xs ss n ++ (y ∷ [])) is) ∙ sym put_case.1
         where
           entries_of : List Entry → Held
           entries_of es = record { entries = es; places = p }

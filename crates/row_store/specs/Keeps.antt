@@ -43,7 +43,7 @@ module _ (xs : List Slot) (ss : List ℕ) (n p : ℕ) (o : Ordered xs ss n p) wh
   pub places_apart : (i j : ℕ) → i < n → j < n → (i ≢ j) → place (slice_index_or xs i vacant) ≢ place (slice_index_or xs j vacant)
   places_apart i j a b f e = elim (cases_order i j) [
     | inl q ↦ f q
-    | inr q ↦ elim q [ inl l ↦ omega (arith, o.rising i j (l, b)) | inr l ↦ omega (arith, o.rising j i (l, a)) ]
+    | inr q ↦ elim q [ inl l ↦ omega (arith, o.rising i j vacant l b) | inr l ↦ omega (arith, o.rising j i vacant l a) ]
   ]
 
   pub keeps : Kept (held_of xs ss n p)

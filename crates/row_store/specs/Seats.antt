@@ -1,35 +1,27 @@
 -- Records in clause order, and the seat of each entry among them.
-use Rattle.std.specs.Prelude.{◌≡◌, ℕ, zero, suc, ◌+◌, ◌-◌, ◌^◌, ◌<◌, ◌≤◌, Bool, true, false, cond, not, List, [], ◌∷◌, ◌++◌, length, get_or, drop, nat_le, slice_index, slice_index_or}
-use Rattle.clause.specs.declared.words.Clause.{Clause}
+use Rattle.std.specs.Prelude.{◌≡◌, ℕ, zero, suc, ◌+◌, ◌-◌, ◌<◌, ◌≤◌, Bool, true, false, cond, not, List, [], ◌∷◌, ◌++◌, length, get_or, drop, nat_le, slice_index, slice_index_or}
+use Rattle.std.proofs.Common.{lit<}
 use Rattle.clause.specs.Clauses.{lits, makes}
 use Rattle.clause.specs.Order.{rank}
 use Rattle.clause.specs.Reading.{clear}
 use Rattle.store.specs.declared.entry.Entry.{Entry}
 use Rattle.store.specs.Held.{Held}
 use Rattle.row.specs.declared.Added.{Added}
-use Rattle.row.specs.Order.{Sound, room, used}
-use Rattle.row.specs.Adds.{Alters, grown, Adds}
+use Rattle.row.specs.Order.{Ascending}
+use Rattle.row.specs.Adds.{Adds}
 use Rattle.row_store.specs.declared.slot.Slot.{Slot}
 
 -- a record that holds nothing
 abbrev pub vacant : Slot
-vacant = record { clause = clear; first = 0; second = 0; number = 0 }
+vacant = record { clause = clear; first = 0; second = 0; number = 0; words = (lit< tt, lit< tt) }
 
 -- x holds nothing: no literal and no number
 abbrev pub Vacant : Slot → Type 0
 Vacant x = (lits x.clause ≡ lits clear) × (x.first ≡ 0) × (x.second ≡ 0) × (x.number ≡ 0)
 
--- the record of the entry e with the number k
-abbrev pub record_of : Entry → ℕ → Slot
-record_of e k = record { clause = e.clause; first = e.first; second = e.second; number = k }
-
 -- the entry that a record holds
 abbrev pub entry_of : Slot → Entry
 entry_of x = record { clause = x.clause; first = x.first; second = x.second }
-
--- the words of c are words of 64 atoms
-abbrev pub Words : Clause → Type 0
-Words c = (c.positive < 2 ^ 64) × (c.negative < 2 ^ 64)
 
 -- where a record stands in clause order
 abbrev pub place : Slot → ℕ
@@ -47,10 +39,6 @@ arrivals xs ss (suc k) = arrivals xs ss k ++ (entry_of (sitting xs ss k) ∷ [])
 -- what the store stands for: n records in xs with their seats in ss, and p places
 abbrev pub held_of : List Slot → List ℕ → ℕ → ℕ → Held
 held_of xs ss n p = record { entries = arrivals xs ss n; places = p }
-
--- the first n records rise in clause order
-abbrev pub Rising : List Slot → ℕ → Type 0
-Rising xs n = (i j : ℕ) → (i < j) × (j < n) → place (slice_index_or xs i vacant) < place (slice_index_or xs j vacant)
 
 -- each of n entries has a seat among the n records
 abbrev pub Seated : List ℕ → ℕ → Type 0
@@ -74,20 +62,20 @@ pub record Ordered (xs : List Slot) (ss : List ℕ) (n p : ℕ) : Type 0 where
   pub fits : p ≤ length xs
   pub benches : p ≤ length ss
   pub few : p ≤ 16384
-  pub rising : Rising xs n
+  pub rising : Ascending place xs n
   pub seated : Seated ss n
   pub named : Named xs ss n
   pub counted : Counted xs n
   pub returned : Returned xs ss n
 
--- An addition of the record x to the records of xs, of which n are in use and p may be, came to the answer and left ys, of which m are in use and q may be.
-pub record Enters (xs : List Slot) (n p : ℕ) (x : Slot) (r : Added) (ys : List Slot) (m q : ℕ) : Type 0 where
-  pub alters : Alters xs (used xs n p) (room xs p) x r ys
-  pub size : m ≡ grown n (used xs n p) r
+-- An addition of the entry e with the number k to the records of xs, of which n are in use and p may be, came to the answer and left ys, of which m are in use and q may be.
+pub record Enters (xs : List Slot) (n p : ℕ) (e : Entry) (k : ℕ) (r : Added) (ys : List Slot) (m q : ℕ) : Type 0 where
+  pub slot : Slot
+  pub entry : entry_of slot ≡ e
+  pub number : slot.number ≡ k
+  pub adds : Adds place xs n p slot r ys m
   pub places : q ≡ p
   pub beyond : drop p ys ≡ drop p xs
-  pub adds : Sound place xs n p → Adds place xs n p x r ys m
-  pub sound : Sound place xs n p → Sound place ys m q
 
 -- a seat once a record has been put in at i
 abbrev pub moved : ℕ → ℕ → ℕ

@@ -3,14 +3,9 @@ ghost use Rattle.row_store.specs.Seats.{AllTrue, FirstFalse};
 
 use crate::slot::Slot;
 
-// The first record from the position `from` on whose clause is false.
-pub(crate) fn first_false(records: &[Slot], from: usize, valuation: u64) -> Option<usize>
-    ensures { MatchOption result (AllTrue records.now from (length records.now) valuation) (λ i. FirstFalse records.now from valuation i) }
+// The first record whose clause is false.
+pub(crate) fn first_false(records: &[Slot], valuation: u64) -> Option<usize>
+    ensures { MatchOption result (AllTrue records.now 0 (length records.now) valuation) (λ i. FirstFalse records.now 0 valuation i) }
 {
-    for i in from..records.len() {
-        if records[i].fails(valuation) {
-            return Some(i);
-        }
-    }
-    None
+    records.iter().position(|record| record.fails(valuation))
 }

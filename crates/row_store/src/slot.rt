@@ -1,30 +1,53 @@
-ghost use Rattle.std.specs.Prelude.{◌≡◌};
-ghost use Rattle.row_store.specs.Seats.{Vacant, Words, entry_of, place, fails};
+ghost use Rattle.clause.specs.Clauses.{Words};
 
 use clause::words::Clause;
 use row::Record;
-use std::cmp::Ordering;
 use store::entry::Entry;
 
-// A record of the store: a clause, the numbers of its antecedents, and its own number by arrival.
+// A record of the store: a clause, the numbers of its antecedents, and its own number by arrival. The clause alone orders records.
+// Not an `Entry` with a number: its padding would make the record larger.
 #[derive(Clone, Copy)]
+#[derive_where(PartialEq, Eq, PartialOrd, Ord)]
 pub struct Slot {
     pub(crate) clause: Clause,
+    #[derive_where(skip(EqHashOrd))]
     pub(crate) first: u16,
+    #[derive_where(skip(EqHashOrd))]
     pub(crate) second: u16,
+    #[derive_where(skip(EqHashOrd))]
     pub(crate) number: u16,
+    ghost words: { Words clause },
 }
 
 impl Slot {
+    ghost use Rattle.std.specs.Prelude.{◌≡◌};
+    ghost use Rattle.row_store.specs.Seats.{Vacant, entry_of, fails};
+
     // A record that holds nothing, to make slots of.
     pub fn blank() -> Slot
         ensures { Vacant result }
     {
+        let clause = Clause::empty();
+        clause.words_fit();
         Slot {
-            clause: Clause::empty(),
+            clause,
             first: 0,
             second: 0,
             number: 0,
+        }
+    }
+
+    // The record of an entry with its number.
+    pub(crate) fn holding(entry: &Entry, number: u16) -> Slot
+        ensures entry { entry_of result ≡ entry.now }
+        ensures number { result.number ≡ number }
+    {
+        entry.clause.words_fit();
+        Slot {
+            clause: entry.clause,
+            first: entry.first,
+            second: entry.second,
+            number,
         }
     }
 
@@ -32,10 +55,7 @@ impl Slot {
     pub(crate) fn sought(clause: &Clause) -> Slot
         ensures { result.clause ≡ clause.now }
     {
-        Slot {
-            clause: *clause,
-            ..Slot::blank()
-        }
+        Slot::holding(&Entry::given(*clause), 0)
     }
 
     pub(crate) fn entry(&self) -> Entry
@@ -50,10 +70,8 @@ impl Slot {
 
     // The number of the entry.
     pub(crate) fn number(&self) -> u16
-        ensures value { result ≡ self.now.number }
-        ensures words { Words self.now.clause }
+        ensures { result ≡ self.now.number }
     {
-        words_fit(&self.clause);
         self.number
     }
 
@@ -65,19 +83,15 @@ impl Slot {
     }
 }
 
-// Tells the proofs that a clause's words have 64 atoms: of a number in a struct only a read says that it fits its type.
-pub(crate) fn words_fit(clause: &Clause)
-    ensures { Words clause.now }
-{
-    let _positive = clause.positive();
-    let _negative = clause.negative();
-}
-
 // Records are in clause order.
 impl Record for Slot {
+    ghost use Rattle.std.specs.Prelude.{◌≡◌};
+    ghost use Rattle.std.proofs.Common.{sym};
+    ghost use Rattle.std.specs.Cmp.{ranks};
+    ghost use Rattle.clause.proofs.Ranks.{valued};
+    ghost use Rattle.row_store.specs.Seats.{place};
+
     ghost key = { place };
 
-    fn order(&self, other: &Slot) -> Ordering {
-        self.clause.cmp(&other.clause)
-    }
+    ghost keyed = { λ x y. sym (valued x.clause y.clause x.words y.words _ (ranks (place x) (place y))) };
 }

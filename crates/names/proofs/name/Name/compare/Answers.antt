@@ -1,15 +1,13 @@
-use Rattle.std.proofs.Common.{◌≡◌, ℕ, List, Ordering, subst}
-use Rattle.names.specs.Bytes.{ByBytes}
+use Rattle.std.proofs.Common.{◌∙◌}
+use Rattle.std.proofs.lemmas.Cmp.{ranked}
+use Rattle.names.specs.Keyed.{padded, keyed}
 use Rattle.names.specs.Names.{spelled}
-use Rattle.names.proofs.Ranks.{by_bytes, by_ranks, order_law}
+use Rattle.names.proofs.Ranks.{by_ranks, order_law}
 use Rattle.names.proofs.name.Name.compare.Goals as goal
-
-moved : (v w x y : List ℕ) (r : Ordering) → x ≡ v → y ≡ w → ByBytes x y r → ByBytes v w r
-moved v w x y r e f h = subst (λ z. ByBytes z w r) e (subst (λ z. ByBytes x z r) f h)
 
 pub returns : goal.returns
 returns c =
     let s = c.args.self.now in
     let o = c.args.other.now in
-    let h = moved (spelled s) (spelled o) _ _ c.compare_bytes.result c.bytes.ensures.value c.bytes-2.ensures.value (by_bytes _ _ _ c.compare_bytes.ensures) in
-    record { order = h; ranks = by_ranks (spelled s) (spelled o) c.compare_bytes.result s.good o.good h; law = order_law }
+    let r = ranked _ _ c.cmp.result (c.cmp.ensures ∙ keyed s.bytes o.bytes s.len o.len s.full o.full (padded s.bytes s.len s.good s.padded) (padded o.bytes o.len o.good o.padded)) in
+    record { order = by_ranks (spelled s) (spelled o) c.cmp.result s.good o.good r; ranks = r; law = order_law }
