@@ -7,7 +7,7 @@ use Rattle.answer.proofs.Answers.{decided, vacant_is, moved, refused}
 use Rattle.answer.proofs.call.decide_checked.Goals as goal
 
 abbrev meant : RowStore → Held
-meant s = held_of s.row.slots.now s.bench.seats.now s.row.size s.row.places
+meant s = held_of s.row.slots.now s.seats.now s.row.size s.row.places
 
 pub returns-in_err-load : goal.returns-in_err-load
 returns-in_err-load c =
