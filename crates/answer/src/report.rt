@@ -21,7 +21,7 @@ pub(crate) fn percent_of(size: u16, places: u16) -> u64
     (200 * u64::from(size) + u64::from(places)) / (2 * u64::from(places))
 }
 
-// Why a text was refused: the refusal's number and place.
+// Why a text was refused: the refusal's number and place. Kept calls of `Text`, here and below, in place of `Display`: a formatter may fail, and an answer is printed whole.
 pub(crate) fn refusal_text(refusal: Refusal) -> Text
     ensures { result ≡ faulted (told refusal) }
 {

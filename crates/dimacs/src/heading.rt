@@ -15,7 +15,7 @@ pub struct Heading {
 }
 
 // A number of the heading: of atoms, with the most that are allowed, or of clauses.
-// Kept an enum, in place of a test that is passed in: the laws of the texts cite these variants, and the check of their proofs would fall.
+// Kept an enum, in place of a test that is passed in: a heading has just these two kinds of numbers, and a test would say no more than their names.
 #[derive(Clone, Copy, Debug, PartialEq, Eq)]
 pub enum Count {
     Atoms(u32),

@@ -8,10 +8,7 @@ fn bytes<const N: usize>(part: &[u8], at: usize) -> [u8; N]
     requires { at + N ≤ length part.now }
     ensures { result ≡ take N (drop at part.now) }
 {
-    match part[at..].first_chunk() {
-        Some(bytes) => *bytes,
-        None => unreachable(),
-    }
+    *part[at..].first_chunk().unwrap()
 }
 
 // The line that 24 bytes write.

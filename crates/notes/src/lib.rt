@@ -1,4 +1,4 @@
-// The printed lines that are no items of a session.
+// The printed lines that are no items of a session. Kept functions, in place of `Display`: each is one format of a number or of nothing, for which no type stands.
 #![tactic(auto)]
 
 ghost use Rattle.std.specs.Prelude.{◌≡◌, IfOk, string_bytes};

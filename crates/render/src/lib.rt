@@ -1,4 +1,4 @@
-// Items and counts as text.
+// Items and counts as text. Kept functions, in place of `Display`: each is one format of values that stand together nowhere else.
 #![tactic(auto)]
 
 ghost use Rattle.std.specs.Prelude.{◌≡◌, IfOk, string_bytes};

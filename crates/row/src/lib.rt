@@ -24,7 +24,7 @@ pub enum Added {
 }
 
 // Records in order, without equals, at the front of lent slots.
-// Only the first `places` slots are ever used, and of them the first `size` are in use.
+// Only the first `places` slots are ever used, and of them the first `size` are in use. Kept a slice with two counts: the caller lends the memory.
 #[derive(Drop)]
 pub struct Row<'a, R: Record> {
     slots: &'a mut [R],

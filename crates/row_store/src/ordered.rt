@@ -14,7 +14,7 @@ use store::entry::Entry;
 use store::store::ClauseStore;
 
 // Records in clause order in the lent slots, each with its number by arrival;
-// the seat of number k, at k - 1 of the lent seats, is its position among the records.
+// the seat of number k, at k - 1 of the lent seats, is its position among the records. Kept apart from the records: the caller lends both.
 #[derive(Drop)]
 pub struct RowStore<'a> {
     row: Row<'a, Slot>,

@@ -35,6 +35,7 @@ fn clear(marks: &mut [u8], size: usize)
 }
 
 // Marks the entries that the last derivation depends on. Antecedents lie below their entries, so one pass from the last entry down is enough.
+// Kept a range of indices: while a mark is read, marks below it are written.
 pub(crate) fn mark<S: ClauseStore>(session: &Session<'_, S>, last: Entry, marks: &mut [u8])
     requires { length (S.held session.now.store.now).entries ≤ length marks.old }
     ensures { marks.new ≡ over (marks_of (S.held session.now.store.now).entries last.first last.second) marks.old }
