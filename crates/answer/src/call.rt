@@ -48,7 +48,8 @@ fn decide(text: &[u8]) -> Result<Text, Refusal>
     decide_checked(text, heading.atoms)
 }
 
-// Opens a session with so many atoms over 1,024 local places, loads the text and runs.
+// Opens a session with so many atoms over 1,024 local places, loads the text and runs. The bound on the atoms is asked of each function that prints them: a session
+// holds any count, and its opening refuses one above 64.
 fn decide_checked(text: &[u8], atoms: u32) -> Result<Text, Refusal>
     requires { atoms ≤ 64 }
     ensures { MatchResult result (λ t. t ≡ loaded atoms (load vacant (opened atoms vacant) text.now)) (λ e. faulted (told e) ≡ loaded atoms (load vacant (opened atoms vacant) text.now)) }

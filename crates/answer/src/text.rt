@@ -8,7 +8,7 @@ use std::marker::Model;
 // How many bytes a text may have.
 const MOST: usize = 512;
 
-// The first `len` of the bytes. Kept an array with a length, in place of a `Vec`: the answer call needs no heap.
+// The first `len` of the bytes. Kept an array with a length, in place of a `Vec`: the answer call has no heap. Each call asks for the room that it takes.
 #[derive(Drop)]
 pub(crate) struct Text {
     bytes: [u8; MOST],
@@ -71,7 +71,7 @@ impl Text {
         self.number(n);
     }
 
-    // A blank and the literal of an atom.
+    // A blank and the literal of an atom; its sign stands apart, since `number` writes digits alone.
     fn literal(&mut self, atom: u32, value: bool)
         requires { (length self.old + 4 ≤ 512) × (atom ≤ 64) }
         ensures value { self.new ≡ self.old ++ literal_field atom value }

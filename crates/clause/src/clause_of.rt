@@ -1,5 +1,5 @@
 ghost use Rattle.std.specs.Prelude.{◌≡◌, MatchOption, ◌==◌, bit_and, bit_or};
-ghost use Rattle.clause.specs.Clauses.{clause_of, lits, top, Shares};
+ghost use Rattle.clause.specs.Clauses.{clause_of, lits, same, top, Shares};
 
 use crate::words::Clause;
 
@@ -51,6 +51,13 @@ impl Clause {
         ensures { result ≡ bit_or self.now.positive self.now.negative }
     {
         self.positive | self.negative
+    }
+
+    // The derived equality, which has no clauses of its own: whether the two clauses have the same literals.
+    pub fn same(&self, other: &Clause) -> bool
+        ensures { result ≡ same self.now other.now }
+    {
+        self == other
     }
 }
 

@@ -38,7 +38,7 @@ fn order_of(mine: Treatment, theirs: Treatment) -> Ordering
     mine.cmp(&theirs)
 }
 
-// The order of clauses, decided at the highest atom that the two treat differently.
+// The order of clauses, decided at the highest atom that the two treat differently; a derive would compare the positive words first.
 impl Ord for Clause {
     ghost cmp = { clause_cmp };
 

@@ -71,7 +71,7 @@ impl Refusal {
         }
     }
 
-    // 1 words, 2 clauses, 3 the rest.
+    // 1 words, 2 clauses, 3 the rest: a number, as the number itself, since the rules and the printed texts give it as one.
     pub fn layer(&self) -> u8
         ensures { result ≡ (told self.now).layer }
     {

@@ -4,8 +4,7 @@ ghost use Rattle.clause.specs.Words.{one};
 
 use crate::words::Clause;
 
-// The word of the one atom, 0 for atom 0. Atoms are kept plain numbers, with their bound where it is needed: 0 stands for no atom throughout (the highest
-// atom of the empty clause), so a type for the numbers up to 64 would be taken apart at nearly every use.
+// The word of the one atom, 0 for atom 0.
 pub(crate) fn word_of(atom: u32) -> u64
     requires { atom ≤ 64 }
     ensures { result ≡ one atom }

@@ -1,5 +1,8 @@
 ghost use Rattle.std.specs.Prelude.{◌≡◌, bit_and};
 
+// Atoms are plain numbers, here and in the crates above, and their bound is asked where it is needed: 0 stands for no atom throughout (the highest atom of the
+// empty clause), so a type for the numbers up to 64 would be taken apart at nearly every use.
+
 // A set of literals in which no atom stands in both signs: atom a is worth 2^(a - 1) in either word. Equal clauses have the same literals.
 #[derive(Clone, Copy, Debug, PartialEq, Eq)]
 pub struct Clause {

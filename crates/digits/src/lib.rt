@@ -4,7 +4,7 @@
 ghost use Rattle.std.specs.Prelude.{◌≡◌};
 ghost use Rattle.digits.specs.Digits.{reads, at_most};
 
-// The number that the digits write, or `MOST` where it is larger; nothing where a byte is no digit. No digits write 0.
+// The number that the digits write, or `MOST` where it is larger; nothing where a byte is no digit. The empty slice writes 0.
 pub fn number<const MOST: u32>(digits: &[u8]) -> Option<u32>
     ensures { result ≡ at_most MOST (reads 0 digits.now) }
 {

@@ -5,6 +5,7 @@ ghost use Rattle.dimacs.specs.Heading.{leaving, expecting, counting, beyond, hea
 
 use crate::numbers::number;
 use crate::reader::Reader;
+use clause::literals::is_outside;
 use clause::refusal::Refusal;
 
 // How many atoms and clauses a text announces.
@@ -27,7 +28,7 @@ impl Count {
         ensures { result ≡ beyond self k }
     {
         match self {
-            Count::Atoms(n) => k == 0 || k > n.min(64),
+            Count::Atoms(n) => is_outside(k, n),
             Count::Clauses => k > 16_384,
         }
     }

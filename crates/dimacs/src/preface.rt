@@ -15,7 +15,7 @@ fn lead(line: &[u8]) -> usize
     }
 }
 
-// Where the first word outside a comment begins, or the text's length.
+// Where the first word outside a comment begins, or the text's length. Kept an index: the place is what is asked for.
 pub(crate) fn heading_place(text: &[u8]) -> usize
     ensures value { result ≡ preface start text.now }
     ensures within { result ≤ length text.now }

@@ -9,7 +9,8 @@ pub struct Word<'a> {
     pub place: usize,
 }
 
-// Hands out the words of a text from a place on.
+// Hands out the words of a text from a place on. Kept the whole text and a place: a word is told with its place in the text.
+// The clauses `same` say that the text stays: a fact of before and after, which no invariant of a type can say.
 #[derive(Drop)]
 pub struct Reader<'a> {
     text: &'a [u8],

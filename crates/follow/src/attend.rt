@@ -6,7 +6,7 @@ ghost use Rattle.follow.specs.Sessions.{next, walked, performed, attended, until
 use clause::refusal::Refusal;
 use notes::{no_session, not_understood};
 use render::{counts_text, item_text};
-use reply::answer::Answer;
+use reply::answer::{Answer, is_spent};
 use reply::calls::{add_clause, run_steps, show_valuation, walk_once};
 use row_store::ordered::RowStore;
 use row_store::slot::Slot;
@@ -16,7 +16,7 @@ use session::session::{Session, due_at_opening};
 use std::io;
 use store::store::ClauseStore;
 
-// Prints an item after `items` others, and answers how many there are then.
+// Prints an item after `items` others, and answers how many there are then. The count goes beside the runtime, in no struct with it: the contracts speak of the count alone.
 fn print_item(
     rt: &HostRuntime,
     items: u64,
@@ -37,13 +37,6 @@ fn print_counts<S: ClauseStore>(rt: &HostRuntime, session: &Session<'_, S>) -> i
         session.size(),
         session.places(),
     )?)
-}
-
-// Whether it is that of a run which its budget ended.
-fn is_spent(answer: Result<Answer, Refusal>) -> bool
-    ensures { result ≡ spent (reply_of answer) }
-{
-    answer.is_ok_and(|a| a.is_spent())
 }
 
 // At most `most` runs with budget 1, until one ends otherwise than by its budget.
@@ -119,7 +112,7 @@ fn attend<'a, S: ClauseStore>(
     Ok(rest)
 }
 
-// The session that the call opens over the store, and the lines after it: those from the next that opens a session on.
+// Opens the session of the call over the store and performs the lines after it: the lines from the next that opens a session on.
 fn follow_session<'a, S: ClauseStore>(
     rt: &HostRuntime,
     call: &str,
@@ -129,10 +122,7 @@ fn follow_session<'a, S: ClauseStore>(
 ) -> io::Result<&'a [Line]>
     ensures { IfOk result (λ r. r.now ≡ drop (until_open lines.now) lines.now) }
 {
-    let opened = match due_at_opening(atoms, store) {
-        None => Ok(Answer::Opened),
-        Some(refusal) => Err(refusal),
-    };
+    let opened = due_at_opening(atoms, store).map_or(Ok(Answer::Opened), |refusal| Err(refusal));
     let _ = print_item(rt, 0, call, opened)?;
     let mut session = Session::open(atoms, store);
     attend(rt, lines, &mut session)

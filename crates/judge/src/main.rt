@@ -13,7 +13,7 @@ fn main(rt: HostRuntime) -> io::Result<()> {
     rt.stdin().take(MOST).read_to_end(&mut trace)?;
     match judge_trace(&trace) {
         Ok(()) => println!(rt; "sound"),
-        // Kept beside the refusal's own Display, which also names the layer: the program prints what it did.
+        // Not by the refusal's `Display`, which also names the layer: the output of this program stays as it was.
         Err(fault) => println!(rt; "refused {} at {}", fault.number(), fault.place()),
     }
 }

@@ -1,4 +1,4 @@
-// One line of a trace: the words of its positive and of its negative atoms, and the numbers of its two antecedent lines, both 0 where it was given.
+// One line of a trace: the words of its positive and of its negative atoms, and the numbers of its two antecedent lines, both 0 where it was given, as in the bytes.
 #[derive(Clone, Copy, Debug, PartialEq, Eq)]
 pub struct Line {
     pub positive: u64,

@@ -43,7 +43,7 @@ impl Name {
         &self.bytes[..self.len as usize]
     }
 
-    // The derived order, which has no clauses of its own: by bytes, a shorter name before those that it begins.
+    // Kept beside the derived `cmp`, which has no clauses: by bytes, a shorter name before those that it begins.
     pub fn compare(&self, other: &Name) -> Ordering
         ensures order { ByBytes (spelled self.now) (spelled other.now) result }
         ensures ranks { Compares (rank (spelled self.now)) (rank (spelled other.now)) result }

@@ -48,6 +48,7 @@ fn print_answer(rt: &HostRuntime, answer: Result<u8, Refusal>) -> io::Result<()>
     }
 }
 
+// Each kind of answer is printed in a form of this program, not by `Display`: its stored output is compared.
 fn print_atom(rt: &HostRuntime, atom: Option<u8>) -> io::Result<()> {
     match atom {
         Some(atom) => print!(rt; " {atom}"),

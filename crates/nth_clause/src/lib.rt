@@ -37,7 +37,7 @@ pub fn nth(k: u32) -> Clause
     Clause::of_words(positive, negative).unwrap()
 }
 
-// The clause at place j, from 0, of every fifth in clause order, from number FIRST on; the last number is that of 32 bits.
+// The clause at place j, from 0, of every fifth in clause order, from number FIRST on; a number beyond 32 bits is taken as the largest.
 pub fn fifth<const FIRST: u32>(j: u16) -> Clause
     ensures { lits result ≡ nth (fifth_number FIRST j) }
 {

@@ -1,4 +1,4 @@
-// Items and counts as text. Kept functions, in place of `Display`: each is one format of values that stand together nowhere else.
+// Items and counts as text. Kept functions, in place of `Display`: an item is three values that stand together nowhere else, the counts are of a search and of its store.
 #![tactic(auto)]
 
 ghost use Rattle.std.specs.Prelude.{◌≡◌, IfOk, string_bytes};

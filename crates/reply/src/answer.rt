@@ -1,6 +1,6 @@
 ghost use Rattle.std.specs.Prelude.{◌≡◌, Some};
 ghost use Rattle.session.specs.Reports.{said};
-ghost use Rattle.reply.specs.Replies.{reply_in, spent_said, spent};
+ghost use Rattle.reply.specs.Replies.{reply_in, reply_of, spent_said, spent};
 ghost use Rattle.reply.specs.Texts.{reply_text};
 
 use crate::action::Action;
@@ -26,7 +26,7 @@ fn used_up(outcome: Outcome) -> bool
 }
 
 impl Answer {
-    // Whether it is that of a run which its budget ended.
+    // Whether the answer is that of a run which its budget ended.
     pub fn is_spent(self) -> bool
         ensures { result ≡ spent (reply_in self) }
     {
@@ -36,6 +36,13 @@ impl Answer {
             _ => false,
         }
     }
+}
+
+// Whether the answer, refused or not, is that of a run which its budget ended.
+pub fn is_spent(answer: Result<Answer, Refusal>) -> bool
+    ensures { result ≡ spent (reply_of answer) }
+{
+    answer.is_ok_and(|a| a.is_spent())
 }
 
 impl fmt::Display for Answer {

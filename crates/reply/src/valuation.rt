@@ -26,7 +26,8 @@ impl Valuation {
     }
 }
 
-// The true literals of the atoms, of 64 at most, with one space between each two.
+// The true literals of the atoms, of 64 at most, with one space between each two. Kept a loop beside that of `Display for Clause`: one function over both would be
+// public and take a closure, and so require that it may be called, which the rules of the project let no public function do.
 impl fmt::Display for Valuation {
     ghost output = { λ v. Some (spelled (true_of v.atoms v.word)) };
 

@@ -15,7 +15,7 @@ pub trait Record: Ord + Copy {
 }
 
 // What an addition came to: the slot of the record already held, or that of the new one, or no slot was free.
-// One enum of three cases: a `Result` would need a second enum inside, for held or new.
+// Kept one enum of three cases: a `Result` would need a second enum inside, for held or new.
 #[derive(Clone, Copy)]
 pub enum Added {
     Held(usize),
@@ -25,6 +25,7 @@ pub enum Added {
 
 // Records in order, without equals, at the front of lent slots.
 // Only the first `places` slots are ever used, and of them the first `size` are in use. Kept a slice with two counts: the caller lends the memory.
+// The clauses `lender` say that the same memory stays lent: a fact of before and after, which no invariant of a type can say.
 #[derive(Drop)]
 pub struct Row<'a, R: Record> {
     slots: &'a mut [R],

@@ -1,6 +1,7 @@
 ghost use Rattle.std.specs.Prelude.{◌≡◌, ◌<◌, length, map};
 ghost use Rattle.row_store.specs.Seats.{Seated, MakesWay, moved};
 
+// Kept the whole slice with a size: the clause says of the whole that what lies past the seats in use stays.
 // Moves the first `size` seats from `at` on up by one, and seats the next entry there.
 pub(crate) fn make_way(seats: &mut [u16], size: usize, at: u16)
     requires room { size < length seats.old }

@@ -5,7 +5,7 @@ use row::Record;
 use store::entry::Entry;
 
 // A record of the store: a clause, the numbers of its antecedents, and its own number by arrival. The clause alone orders records.
-// Not an `Entry` with a number: its padding would make the record larger.
+// Not an `Entry` with a number: its padding would make the record larger (a record has 24 bytes, as the rules say).
 #[derive(Clone, Copy)]
 #[derive_where(PartialEq, Eq, PartialOrd, Ord)]
 pub struct Slot {

@@ -42,7 +42,7 @@ fn resolves(first: Line, second: Line, line: Line) -> bool
     is_single(atom) && is_joined(first, second, line, atom)
 }
 
-// Line j of the trace, where it lies before line k, to which the bytes reach.
+// Line j of the trace, where it lies before line k. That the bytes reach to line k is asked here and above: it ties the number to the slice.
 fn line_before(trace: &[u8], j: u32, k: u32) -> Option<Line>
     requires { 24 * k ≤ length trace.now }
     ensures { result ≡ cond (is_earlier j k) (Some (line_at trace.now j)) None }

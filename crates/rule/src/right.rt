@@ -30,7 +30,7 @@ pub struct Claim<'a> {
 }
 
 impl<'a> Claim<'a> {
-    // Whether line k passes every test.
+    // Whether line k passes every test. Kept `let .. else`: with `is_some_and` each test would stand inside the closure of the one before it.
     fn passes(self, k: u32) -> bool
         ensures { result ≡ passes self.entry.trace.now self.entry.atoms self.entry.last k }
     {

@@ -67,7 +67,7 @@ fn opening(rest: &[&str]) -> Option<Request>
     }
 }
 
-// The literals of the words, where all are literals.
+// The literals of the words, where all are literals. Kept `let .. else`: a word that is no literal is an answer here, and `?` hands on only a failed allocation.
 fn read_literals(heap: Global, words: &[&str]) -> Result<Option<Vec<i32>>, AllocError>
     ensures { IfOk result (λ o. option_map vec_items o ≡ literals (map (λ x. x.now) words.now)) }
 {

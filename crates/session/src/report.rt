@@ -51,11 +51,11 @@ impl Tally {
         match step {
             Step::Setting => Tally {
                 settings: self.settings.saturating_add(1),
-                derivations: self.derivations,
+                ..self
             },
             Step::Derivation => Tally {
-                settings: self.settings,
                 derivations: self.derivations.saturating_add(1),
+                ..self
             },
         }
     }

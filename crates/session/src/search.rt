@@ -8,7 +8,7 @@ use clause::refusal::Refusal;
 use clause::words::Clause;
 
 // How far a session has come: refused at its opening, without a verdict, or with one. A refuted session keeps the two entries that gave the empty clause
-// (here and in its steps two plain numbers: no fact ties them, so a struct would only name them again).
+// (two plain numbers, here and where they are passed: no fact ties them, so a struct would only name them again).
 #[derive(Clone, Copy)]
 pub enum Phase {
     Unopened(Refusal),

@@ -12,6 +12,7 @@ pub mod questions;
 
 use crate::report::{Outcome, Report, Step, Tally};
 use crate::search::{Phase, Search};
+use clause::literals::is_outside;
 use clause::refusal::Refusal;
 use clause::words::Clause;
 use dimacs::check::check;
@@ -19,7 +20,8 @@ use dimacs::clauses::Clauses;
 use store::entry::Entry;
 use store::store::ClauseStore;
 
-// A session over a lent store. While it lasts, its calls alone alter the store.
+// A session over a lent store. While it lasts, its calls alone alter the store. The clauses `named` say that the same store stays lent: a fact of before and
+// after, which no invariant of a type can say.
 #[derive(Drop)]
 pub struct Session<'a, S: ClauseStore> {
     store: &'a mut S,
@@ -30,7 +32,7 @@ pub struct Session<'a, S: ClauseStore> {
 pub fn due_at_opening<S: ClauseStore>(atoms: u32, store: &S) -> Option<Refusal>
     ensures { result ≡ due atoms (S.held store.now) }
 {
-    if atoms == 0 || atoms > 64 {
+    if is_outside(atoms, 64) {
         return Some(Refusal::AtomCount);
     }
     if store.places() == 0 {
@@ -139,6 +141,7 @@ impl<'a, S: ClauseStore> Session<'a, S> {
         self.steps(budget)
     }
 
+    // Kept one match over phase, clause and budget left: the rules of the project name this form for a run (docs/DECISIONS.md, "Forms").
     fn steps(&mut self, budget: u32) -> Result<Report, Refusal>
         ensures named { self.new.store.ghost_name ≡ self.old.store.ghost_name }
         ensures made { after (S.held self.new.store.now) self.new.search (run_answer result) ≡ runs budget (S.held self.old.store.now) self.old.search none_made }
@@ -192,14 +195,12 @@ impl<'a, S: ClauseStore> Session<'a, S> {
         ensures named { self.new.store.ghost_name ≡ self.old.store.ghost_name }
         ensures made { after (S.held self.new.store.now) self.new.search (answer result) ≡ step_at (S.held self.old.store.now) self.old.search k (entry_at (S.held self.old.store.now).entries k) }
     {
-        let Some(e) = self.store.entry(k) else {
-            return Err(Refusal::DerivedBothSigns);
-        };
+        let e = self.store.entry(k).ok_or(Refusal::DerivedBothSigns)?;
         self.step(k, &e.clause)
     }
 
     // Sets the highest atom of the false clause c, which has number k, or derives a clause from the reason of that atom and c.
-    // Kept `let .. else` and one match over phase, clause and budget in `steps`: the rules of the project name these forms for a step and a run.
+    // Kept `let .. else`: the rules of the project name this form for a step (docs/DECISIONS.md, "Forms").
     fn step(&mut self, k: u16, c: &Clause) -> Result<Step, Refusal>
         ensures named { self.new.store.ghost_name ≡ self.old.store.ghost_name }
         ensures made { after (S.held self.new.store.now) self.new.search (answer result) ≡ step (S.held self.old.store.now) self.old.search k c.now }

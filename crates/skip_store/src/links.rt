@@ -6,7 +6,8 @@ ghost use Rattle.skip_store.specs.Links.{On, seat, link, Joins, Earlier, head_af
 pub(crate) const LEVELS: usize = 15;
 
 // The link of each entry, and of the head, on each of its levels: the number of the entry that follows there, 0 where none does.
-// They are plain numbers with 0 for none, since the caller lends the memory, two bytes a link.
+// They are plain numbers with 0 for none, since the caller lends the memory, two bytes a link. That an entry is on a level, and that its links lie in the lent
+// memory, is asked at each call: it ties the number to the level and to the slice.
 #[derive(Drop)]
 pub struct Links<'a> {
     pub(crate) head: [u16; LEVELS],

@@ -12,7 +12,7 @@ use std::cmp::Ordering;
 use store::entry::Entry;
 
 impl SkipStore<'_> {
-    // The record of entry k.
+    // The record of entry k. Entry numbers are plain: their bound is the store's, which a type of the number alone cannot name.
     fn record(&self, k: u16) -> Entry
         requires { (0 < k) × (k ≤ length self.now.records.now) }
         ensures { result ≡ slice_index_or self.now.records.now (k - 1) blank }
@@ -79,7 +79,7 @@ impl SkipStore<'_> {
     {
         let mut before = [0; LEVELS];
         let mut last = 0;
-        // kept: after `before.iter_mut().enumerate().rev()` a proof knows nothing of the elements
+        // Kept a range of levels: after `before.iter_mut().enumerate().rev()` a proof knows nothing of the elements
         for level in (0..LEVELS).rev() {
             last = self.last_before(last, level, clause);
             before[level] = last;

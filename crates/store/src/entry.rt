@@ -2,7 +2,7 @@ ghost use Rattle.std.specs.Prelude.{◌≡◌};
 
 use clause::words::Clause;
 
-// A clause and the numbers of its two antecedents, both 0 where it was given.
+// A clause and the numbers of its two antecedents, both 0 where it was given: numbers, not an option of two, since the rules write 0 and 0 there.
 #[derive(Clone, Copy, Debug, PartialEq, Eq)]
 pub struct Entry {
     pub clause: Clause,

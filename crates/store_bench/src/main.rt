@@ -42,7 +42,7 @@ fn scattered(range: u32, step: u32, i: u32) -> u32
 }
 
 // The i-th place from the two ends of the first `range` inwards.
-// kept apart from that of `store_orders`: here a line gives any range of 32 bits, there all numbers have 16, and casts would be no plainer
+// Kept apart from that of `store_orders`: here any range comes from a line of input, there the contract speaks of places below 16,384 only.
 fn alternating(range: u32, i: u32) -> u32
     ensures { result ≡ (if nat_eq (i % 2) 0 then i / 2 else range - 1 - i / 2) }
 {

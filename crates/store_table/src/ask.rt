@@ -13,6 +13,7 @@ fn find<S: ClauseStore>(store: &S, words: &Words) -> Answer
         .map_or(Answer::NoClause, |clause| store.find(&clause).into())
 }
 
+// Kept `let .. else`: a closure would have to borrow the store that it alters.
 fn put<S: ClauseStore>(store: &mut S, words: &Words, first: u16, second: u16) -> Answer
     ensures answers { result ≡ puts_in (S.held store.old) (clause_in words.now) first second }
     ensures after { S.held store.new ≡ leaves_in (S.held store.old) (clause_in words.now) first second }

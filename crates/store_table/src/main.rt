@@ -79,8 +79,7 @@ impl Table<'_> {
         Ok(right)
     }
 
-    // kept: `over_row` and `over_skip` stay two, since a store borrows memory of its own kind, and one function over both would take a trait that makes
-    // the memory and lends the store
+    // Kept two, here and below: a store borrows memory of its own kind, and one function over both would take a trait that makes the memory and lends the store.
     fn over_row(&self, rt: &HostRuntime) -> io::Result<usize>
         ensures { IfOk result (λ n. n ≤ length self.now.rows.now) }
     {
@@ -151,6 +150,11 @@ fn memory(rt: &HostRuntime) -> io::Result<()> {
         links: 7,
     };
     Table::new("fewer seats and links", fewer_seats, &tables::UNEQUAL).over_both(rt)?;
+    without_places(rt)
+}
+
+// Of the two slices that a place needs, one alone.
+fn without_places(rt: &HostRuntime) -> io::Result<()> {
     // One link is less than a place takes.
     let no_seats = Lent {
         slots: 4,

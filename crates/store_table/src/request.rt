@@ -54,7 +54,7 @@ pub enum Answer {
     Count(u16),
     Number(u16),
     Nothing,
-    // The refusal's number: the tables write it as the rules do.
+    // The refusal's number, not the refusal: the tables write it as the rules do, and their values stay.
     Refused(u8),
     // A clause and the numbers of its antecedents.
     Holds(Words, u16, u16),

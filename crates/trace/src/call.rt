@@ -40,7 +40,7 @@ fn write_refutation<S: ClauseStore>(
 }
 
 // Under an unsatisfiable verdict, the trace of the refutation, written over the first bytes of the buffer, and the mark of each held entry: 1 where
-// the trace has a line for it, else 0. It answers the trace's length in bytes. A refused call alters nothing.
+// the trace has a line for it, else 0 (bytes, since the caller lends the memory and reads them). It answers the trace's length in bytes. A refused call alters nothing.
 pub fn write_trace<S: ClauseStore>(
     session: &Session<'_, S>,
     buffer: &mut [u8],

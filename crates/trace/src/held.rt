@@ -16,7 +16,7 @@ pub(crate) fn count<S: ClauseStore>(session: &Session<'_, S>) -> usize
     session.size() as usize
 }
 
-// An entry as a line, with the numbers of entries.
+// An entry as a line, with the numbers of entries. Kept a function: `From` could stand only in the crate of `Line` or of `Entry`, and neither knows the other.
 pub(crate) fn entry_line(entry: Entry) -> Line
     ensures { result ≡ as_line entry }
 {

@@ -24,7 +24,7 @@ fn note(marks: &mut [u8], upto: usize, k: u32)
     }
 }
 
-// None of the first `size` marks is set.
+// Clears the first `size` marks. Kept the whole slice with a size, here and where marks are numbered: the clauses say of the whole that the marks past it stay.
 fn clear(marks: &mut [u8], size: usize)
     requires { size ≤ length marks.old }
     ensures long { length marks.new ≡ length marks.old }
@@ -35,7 +35,7 @@ fn clear(marks: &mut [u8], size: usize)
 }
 
 // Marks the entries that the last derivation depends on. Antecedents lie below their entries, so one pass from the last entry down is enough.
-// Kept a range of indices: while a mark is read, marks below it are written.
+// Kept a range of indices: while a mark is read, marks below it are written, so no iterator over them can be held.
 pub(crate) fn mark<S: ClauseStore>(session: &Session<'_, S>, last: Entry, marks: &mut [u8])
     requires { length (S.held session.now.store.now).entries ≤ length marks.old }
     ensures { marks.new ≡ over (marks_of (S.held session.now.store.now).entries last.first last.second) marks.old }

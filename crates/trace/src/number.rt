@@ -6,7 +6,7 @@ ghost use Rattle.trace.specs.Tables.{line_in, by_table, Table};
 use crate::mark::is_marked;
 use lines::line::Line;
 
-// The line of entry k by the table, 0 where it has none.
+// The line of entry k by the table, 0 where it has none. Kept `let .. else`: with one chain of `and_then` and `map_or` the proof did not close.
 fn line_of(table: &[u16], k: u32) -> u32
     ensures { result ≡ line_in table.now k }
 {

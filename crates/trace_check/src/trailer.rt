@@ -3,6 +3,7 @@ ghost use Rattle.lines.specs.Format.{line_at, reaches};
 ghost use Rattle.rule.specs.Tests.{is_bare};
 ghost use Rattle.trace_check.specs.Trailers.{givens, sized, counted, agrees, Ended};
 
+use clause::literals::is_outside;
 use lines::line::Trailer;
 use lines::read::{line_at, trailer};
 use rule::right::is_bare;
@@ -18,7 +19,7 @@ fn is_sized(length: usize) -> bool
 fn is_counted(atoms: u32) -> bool
     ensures { result ≡ counted atoms }
 {
-    atoms >= 1 && atoms <= 64
+    !is_outside(atoms, 64)
 }
 
 // Whether the trace has a line k with both numbers 0.

@@ -100,7 +100,7 @@ impl<'a> OpenCheck<'a> {
 }
 
 impl<'a> ClosedCheck<'a> {
-    // Sound, or the first fault.
+    // Sound, or the first fault, or closed too early.
     pub fn judge(&self) -> Result<(), Refusal>
         ensures value { answer result ≡ judgement self.now.check.claim.last self.now.check.taken self.now.check.fault }
         ensures means { Means self.now.check.claim.trace.now self.now.check.taken (answer result) }
