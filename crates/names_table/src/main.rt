@@ -48,22 +48,29 @@ fn print_answer(rt: &HostRuntime, answer: Result<u8, Refusal>) -> io::Result<()>
     }
 }
 
-// Each kind of answer is printed in a form of this program, not by `Display`: its stored output is compared.
-fn print_atom(rt: &HostRuntime, atom: Option<u8>) -> io::Result<()> {
-    match atom {
-        Some(atom) => print!(rt; " {atom}"),
+// Prints what is there, or - for nothing. Each kind of answer is printed in a form of this program, not by `Display`: its stored output is compared.
+fn print_or_dash<T, F: FnOnce(T) -> io::Result<()>>(
+    rt: &HostRuntime,
+    answer: Option<T>,
+    print: F,
+) -> io::Result<()>
+    requires { F.IsAlwaysCallable print }
+{
+    match answer {
+        Some(value) => print(value),
         None => print!(rt; " -"),
     }
 }
 
+fn print_atom(rt: &HostRuntime, atom: Option<u8>) -> io::Result<()> {
+    print_or_dash(rt, atom, |atom| print!(rt; " {atom}"))
+}
+
 fn print_name(rt: &HostRuntime, name: Option<Name>) -> io::Result<()> {
-    match name {
-        Some(name) => {
-            print!(rt; " ")?;
-            rt.stdout().write_all(name.bytes())
-        }
-        None => print!(rt; " -"),
-    }
+    print_or_dash(rt, name, |name| {
+        print!(rt; " ")?;
+        rt.stdout().write_all(name.bytes())
+    })
 }
 
 fn print_size(rt: &HostRuntime, table: &NameTable<'_>) -> io::Result<()> {

@@ -43,11 +43,7 @@ pub fn append(text: &mut String, index: usize, word: &str) -> Result<(), AllocEr
 fn spaced(heap: Global, words: &[&str]) -> Result<String, AllocError>
     ensures { IfOk result (λ s. string_bytes s ≡ spaced (map (λ x. x.now) words.now)) }
 {
-    let mut text = String::new(heap);
-    for (i, word) in words.iter().enumerate() {
-        append(&mut text, i, word)?;
-    }
-    Ok(text)
+    words.join(heap, " ")
 }
 
 // The line without the carriage return that it may end in.
