@@ -27,7 +27,7 @@ pub(crate) fn renumber(table: &[u16], line: Line) -> Line
     }
 }
 
-// Numbers the lines: the table, empty before, then has the line of each marked entry.
+// Numbers the lines: the table, empty before, then has the line of each marked entry. Kept `table[i]`: after a `zip` with `iter_mut` the proof did not close.
 pub(crate) fn number(marks: &[u8], size: usize, table: &mut [u16])
     requires { (size ≤ length marks.now) × ((size ≤ length table.old) × ((size ≤ 16384) × (Table [] table.old))) }
     ensures { Table (order (marked marks.now) size) table.new }
