@@ -50,9 +50,9 @@ pub record IsEntry (places : List ℕ) (k : ℕ) (e : Entry) : Type 0 where
   pub first : e.first ≡ k
   pub second : e.second ≡ slice_index places (k - 1)
 
--- there is no entry k among the first n that arrived
-abbrev pub NoEntry : List ℕ → ℕ → ℕ → Type 0
-NoEntry places n k = 0 < k → k ≤ n → k ≤ length places → ⊥
+-- k is no number of the entries that have these places
+abbrev pub NoEntry : List ℕ → ℕ → Type 0
+NoEntry places k = 0 < k → k ≤ length places → ⊥
 
 -- the clause of p was put and is false
 abbrev pub counts : ℕ → Placed → Bool

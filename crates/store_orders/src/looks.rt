@@ -28,12 +28,11 @@ impl Placed {
     }
 }
 
-// What is known without a store: the clauses in clause order, and the place of each entry.
+// What is known without a store: the clauses in clause order, and the places of the entries so far, by their numbers.
 #[derive(Clone, Copy)]
 pub struct Known<'a, 'b> {
     pub clauses: &'a [Placed],
     pub places: &'b [u16],
-    pub size: u16,
 }
 
 impl Known<'_, '_> {
@@ -46,11 +45,8 @@ impl Known<'_, '_> {
 
     // The entry with the number: its antecedents are its number and its place.
     fn entry(&self, number: u16) -> Option<Entry>
-        ensures { MatchOption result (NoEntry self.now.places.now self.now.size number) (λ e. IsEntry self.now.places.now number e) }
+        ensures { MatchOption result (NoEntry self.now.places.now number) (λ e. IsEntry self.now.places.now number e) }
     {
-        if number > self.size {
-            return None;
-        }
         let index = number.checked_sub(1)?;
         let place = *self.places.get(index as usize)?;
         Some(Entry::derived(fifth::<PUT>(place), number, place))

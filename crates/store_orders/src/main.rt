@@ -29,11 +29,8 @@ fn fill<A: ClauseStore, B: ClauseStore>(
             placed.number = Some(size);
         }
         if size.is_power_of_two() && size.trailing_zeros() % 2 == 0 {
-            sides.look(&Known {
-                clauses,
-                places,
-                size,
-            })?;
+            let places = &places[..places.len().min(size as usize)];
+            sides.look(&Known { clauses, places })?;
         }
     }
     sides.put_full(clauses.first().and_then(|placed| placed.number))
