@@ -144,6 +144,7 @@ fn measure<M: Measured>(
     println!(rt; "{line}: {nanos} ns, sums {built} {sum}")
 }
 
+// Measures the store of the task. Kept three arms: each kind of store borrows memory of its own kind.
 fn perform(rt: &HostRuntime, line: &str, task: &Task) -> io::Result<()> {
     let heap = rt.alloc();
     match task.subject {
