@@ -50,7 +50,7 @@ impl Text {
         self.len = end;
     }
 
-    // A number in decimal.
+    // A number in decimal. Kept by hand: a formatter may fail, and an answer is printed whole.
     fn number(&mut self, n: u64)
         requires { length self.old + length (decimal n) ≤ 512 }
         ensures { self.new ≡ self.old ++ decimal n }

@@ -16,7 +16,7 @@ pub enum Action {
     Refute(u16, u16),
 }
 
-// The highest atom that stands in the second word and not in the first.
+// The highest atom that stands in the second word and not in the first. Kept a loop: with `find` the proof did not close.
 fn gained(before: u64, after: u64) -> Option<u32>
     ensures { MatchOption result (gained_to 64 before after ≡ 0) (λ p. p ≡ gained_to 64 before after) }
 {

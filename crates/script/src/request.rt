@@ -33,7 +33,7 @@ enum Verb {
     Counts,
 }
 
-// Kept a function, in place of FromStr: a word that is no verb is nothing here, and there is no error to name.
+// Kept a function, in place of `FromStr`: what follows takes the verb as an option, so an error named here would be dropped at once.
 fn verb_of(word: &str) -> Option<Verb>
     ensures { result ≡ keyword word.now }
 {

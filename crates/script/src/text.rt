@@ -28,7 +28,7 @@ fn words<'a>(heap: Global, line: &'a str) -> Result<Vec<&'a str>, AllocError>
     Ok(words)
 }
 
-// Puts a word after the text, and a space between them unless it is the first.
+// Puts a word after the text, and a space between them unless it is the first. Kept, though words are joined by the library now: it is public, and its promise stays.
 pub fn append(text: &mut String, index: usize, word: &str) -> Result<(), AllocError>
     ensures { OnOk result (string_bytes text.new ≡ string_bytes text.old ++ spaced_at index word.now) }
 {

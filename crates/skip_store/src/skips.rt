@@ -12,7 +12,7 @@ use store::entry::Entry;
 use store::store::ClauseStore;
 
 // Records by arrival, entry k, from 1, at k - 1, and their links: on each level the entries of that level are linked in clause order.
-// Of the lent memory it uses one record and two links a place.
+// Of the lent memory it uses one record and two links a place. Kept slices with two counts: the caller lends the memory.
 #[derive(Drop)]
 pub struct SkipStore<'a> {
     pub(crate) records: &'a mut [Entry],

@@ -42,7 +42,7 @@ fn scattered(range: u32, step: u32, i: u32) -> u32
 }
 
 // The i-th place from the two ends of the first `range` inwards.
-// Kept apart from that of `store_orders`: here any range comes from a line of input, there the contract speaks of places below 16,384 only.
+// Kept twice, here and in `store_orders`: one function over any range would be public in a third crate, with a contract and a must-fail edit of its own, for this one line.
 fn alternating(range: u32, i: u32) -> u32
     ensures { result ≡ (if nat_eq (i % 2) 0 then i / 2 else range - 1 - i / 2) }
 {
@@ -106,7 +106,7 @@ impl Job<'_> {
         repeat(self.task.built, |i| store.fill(self.arriving(i)))
     }
 
-    // Does the work, and answers the sum of the answers.
+    // Does the work, and answers the sum of the answers. Kept one match, on the word of the input: each arm hands its step to `repeat` as a closure.
     fn work<M: Measured>(&self, store: &mut M) -> u64 {
         let times = self.task.times;
         let built = self.task.built;

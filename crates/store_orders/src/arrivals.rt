@@ -23,7 +23,8 @@ pub const PUT: u32 = 59049;
 // The clauses after them are never put.
 pub const OTHER: u32 = 59050;
 
-// The place of the i-th to arrive, from 0, from the two ends inwards. Kept apart from that of `store_bench`, which takes any range from a line of input.
+// The place of the i-th to arrive, from 0, from the two ends inwards.
+// Kept twice, here and in `store_bench`: one function over any range would be public in a third crate, with a contract and a must-fail edit of its own, for this one line.
 fn alternating(i: u16) -> u16
     requires { i ≤ last }
     ensures { result ≡ inwards i }

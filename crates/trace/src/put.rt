@@ -65,6 +65,7 @@ fn put_end(buffer: &mut [u8], atoms: u32, entries: Count, last: Line) -> usize
 }
 
 impl<'a, 'b, S: ClauseStore> Marked<'a, 'b, S> {
+    // Kept two counts in the loop: only marked entries have a line, and the counts are the answer.
     // Writes the lines of the marked entries by arrival, renumbered by the table.
     fn put_entries(&self, table: &[u16], buffer: &mut [u8]) -> Count
         requires { (24 * length (S.held self.now.session.now.store.now).entries ≤ length buffer.old) × (Table (chosen self.now.marks.now (S.held self.now.session.now.store.now).entries) table.now) }
@@ -73,6 +74,7 @@ impl<'a, 'b, S: ClauseStore> Marked<'a, 'b, S> {
         ensures given { result.given ≡ given_lines (entry_lines (S.held self.now.session.now.store.now).entries (chosen self.now.marks.now (S.held self.now.session.now.store.now).entries)) }
         ensures few { (result.lines ≤ length (S.held self.now.session.now.store.now).entries) × (result.given ≤ result.lines) }
     {
+        // Kept two counts in the loop: only marked entries have a line, and the counts are the answer.
         let mut lines = 0;
         let mut given = 0;
         for (i, mark) in self.marks[..count(self.session)].iter().enumerate() {
