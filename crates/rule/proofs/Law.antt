@@ -110,6 +110,9 @@ resolves_law r c l = (there (ones m) refl, back)
         all : (x y z : Bool) → x ≡ true → y ≡ true → z ≡ true → cond x (y && z) false ≡ true
         all x y z e f g = grind arith
 
+pub absent : (w a : ℕ) → (at w a ≡ true → ⊥) → at w a ≡ false
+absent w a h = ⊎_elim (λ t. absurd (h t)) (λ f. f) (cases_Bool (at w a))
+
 -- the resolvent of two clauses at the atom that cancels is the two joined without it
 pub resolvent_joined : (r c d : Literals) (p : ℕ) → Cancels r c p → (Shares r.pos r.neg → ⊥) → (Shares c.pos c.neg → ⊥) → Resolves r c p d → Joined r c p d
 resolvent_joined r c d p k x y j = record {
@@ -123,9 +126,6 @@ resolvent_joined r c d p k x y j = record {
       (cases_eq a p);
 }
   where
-    absent : (w a : ℕ) → (at w a ≡ true → ⊥) → at w a ≡ false
-    absent w a h = ⊎_elim (λ t. absurd (h t)) (λ f. f) (cases_Bool (at w a))
-
     out : (x y e : Bool) → e ≡ true → y ≡ false → (x && not e) || y ≡ (x || y) && not e
     out x y e f g = grind arith
 

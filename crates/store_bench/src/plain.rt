@@ -1,4 +1,7 @@
 // The baseline: entries by arrival in an array, and every question a scan over it.
+ghost use Rattle.std.specs.Prelude.{◌≡◌, [], ◌∷◌, ◌++◌, length, position, Some, MatchOption};
+ghost use Rattle.clause.specs.Clauses.{same};
+
 use clause::words::Clause;
 use std::alloc::Global;
 use store::entry::Entry;
@@ -9,27 +12,35 @@ pub struct Plain {
 }
 
 impl Plain {
-    pub fn new(heap: Global) -> Plain {
+    pub fn new(heap: Global) -> Plain
+        ensures { result.entries.items ≡ [] }
+    {
         Plain {
             entries: Vec::new(heap),
         }
     }
 
     // The index of the clause.
-    pub fn find(&self, clause: &Clause) -> Option<usize> {
+    pub fn find(&self, clause: &Clause) -> Option<usize>
+        ensures { result ≡ position (λ e. same e.clause clause.now) self.now.entries.items }
+    {
         self.entries
             .iter()
             .position(|entry| entry.clause == *clause)
     }
 
     // Adds an entry without looking whether it is held; its index.
-    pub fn push(&mut self, entry: Entry) -> Option<usize> {
+    pub fn push(&mut self, entry: Entry) -> Option<usize>
+        ensures { MatchOption result (self.new.entries.items ≡ self.old.entries.items) (λ i. (i ≡ length self.old.entries.items) × (self.new.entries.items ≡ self.old.entries.items ++ entry ∷ [])) }
+    {
         let size = self.entries.len();
         self.entries.push(entry).is_ok().then_some(size)
     }
 
     // The index of the entry's clause, which is added unless it is held.
-    pub fn put(&mut self, entry: Entry) -> Option<usize> {
+    pub fn put(&mut self, entry: Entry) -> Option<usize>
+        ensures { MatchOption (position (λ e. same e.clause entry.clause) self.old.entries.items) (MatchOption result (self.new.entries.items ≡ self.old.entries.items) (λ i. (i ≡ length self.old.entries.items) × (self.new.entries.items ≡ self.old.entries.items ++ entry ∷ []))) (λ k. (result ≡ Some k) × (self.new.entries.items ≡ self.old.entries.items)) }
+    {
         if let Some(i) = self.find(&entry.clause) {
             return Some(i);
         }

@@ -1,20 +1,18 @@
 -- A sound trace refutes its given lines.
 use Rattle.std.proofs.Common.{◌≡◌, ℕ, zero, suc, ◌-◌, ◌<◌, ◌≤◌, Bool, true, false, not, ◌&&◌, ◌||◌, eqb, List, length, sym, refl, ap, ◌∙◌, ⊎_elim, arith}
 use Rattle.std.proofs.lemmas.Nat.{le-div}
-use Rattle.std.proofs.lemmas.Bool.{cases_Bool, cases_eq, ne_eqb, both_ways}
+use Rattle.std.proofs.lemmas.Bool.{cases_eq, ne_eqb, both_ways}
 use Rattle.clause.specs.Words.{at}
 use Rattle.clause.specs.Clauses.{Literals, Shares, lit, makes}
 use Rattle.clause.proofs.Truths.{makes_find, makes_some, empty_false}
 use Rattle.lines.specs.Format.{literals, line_at}
 use Rattle.rule.specs.Rule.{Cancels, Joined}
+use Rattle.rule.proofs.Law.{absent}
 use Rattle.trace_check.specs.Checks.{Upto, Sound}
 use Rattle.trace_check.specs.Meaning.{Models, Refutes}
 
 -- a valuation that makes two clauses true makes them true joined without the one atom that cancels
 module _ (v p : ℕ) (r c d : Literals) (k : Cancels r c p) (x : Shares r.pos r.neg → ⊥) (y : Shares c.pos c.neg → ⊥) (j : Joined r c p d) where
-  absent : (w a : ℕ) → (at w a ≡ true → ⊥) → at w a ≡ false
-  absent w a h = ⊎_elim (λ t. absurd (h t)) (λ f. f) (cases_Bool (at w a))
-
   -- a true literal of another atom stays
   stays_first : (a : ℕ) → (a ≡ p → ⊥) → lit v r a ≡ true → lit v d a ≡ true
   stays_first a n e = go (at r.pos a) (at r.neg a) (at c.pos a) (at c.neg a) (at v a) (eqb a p) _ _ (ne_eqb a p n) e (j.positives a) (j.negatives a)
