@@ -1,5 +1,5 @@
 // The answer call over slices.
-ghost use Rattle.std.specs.Prelude.{◌≡◌, ℕ, ◌<◌, ◌≤◌, [], length, MatchResult};
+ghost use Rattle.std.specs.Prelude.{◌≡◌, ℕ, ◌<◌, ◌≤◌, [], length, MatchResult, nat_lt};
 ghost use Rattle.clause.specs.Refusals.{told, refused};
 ghost use Rattle.session.specs.Calls.{run, opened, load};
 ghost use Rattle.answer.specs.Answered.{answered, faulted, ran, loaded, vacant};
@@ -41,7 +41,7 @@ fn print_answer(text: &[u8], out: &mut [u8]) -> usize
 fn decide(text: &[u8]) -> Result<Text, Refusal>
     ensures { MatchResult result (λ t. t ≡ answered text.now) (λ e. faulted (told e) ≡ answered text.now) }
 {
-    if text.len() > 32_768 {
+    if is_too_large(text.len()) {
         return Err(Refusal::TooLarge);
     }
     let heading = check(text, 64)?;
@@ -69,4 +69,11 @@ fn run_loaded<S: ClauseStore>(session: &mut Session<'_, S>, atoms: u32) -> Resul
 {
     let report = session.run(2_000_000)?;
     Ok(report_text(session, atoms, report.outcome))
+}
+
+// Whether a text of so many bytes is refused unread.
+fn is_too_large(bytes: usize) -> bool
+    ensures { result ≡ nat_lt 32768 bytes }
+{
+    bytes > 32_768
 }

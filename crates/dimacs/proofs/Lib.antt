@@ -1,4 +1,3 @@
 pub mod Courses
 pub mod Lead
 pub mod Split
-pub mod Tested

@@ -4,7 +4,7 @@ ghost use Rattle.session.specs.Steps.{after};
 ghost use Rattle.follow.specs.Sessions.{next, walked, performed, attended, until_open};
 
 use clause::refusal::Refusal;
-use notes::{no_session, not_understood};
+use notes::{NoSession, NotUnderstood};
 use render::{counts_text, item_text};
 use reply::answer::{Answer, is_spent};
 use reply::calls::{add_clause, run_steps, show_valuation, walk_once};
@@ -37,6 +37,17 @@ fn print_counts<S: ClauseStore>(rt: &HostRuntime, session: &Session<'_, S>) -> i
         session.size(),
         session.places(),
     )?)
+}
+
+// Printed without memory, as the next.
+fn print_not_understood(rt: &HostRuntime, line: &Line) -> io::Result<()> {
+    let note = NotUnderstood { line: line.number };
+    println!(rt; "{note}")
+}
+
+fn print_no_session(rt: &HostRuntime, line: &Line) -> io::Result<()> {
+    let note = NoSession { line: line.number };
+    println!(rt; "{note}")
 }
 
 // At most `most` runs with budget 1, until one ends otherwise than by its budget.
@@ -105,7 +116,7 @@ fn attend<'a, S: ClauseStore>(
                 line.call.as_str(),
                 call,
             )?,
-            None => rt.println(not_understood(rt.alloc(), line.number)?)?,
+            None => print_not_understood(rt, line)?,
         }
         rest = after;
     }
@@ -158,8 +169,8 @@ pub fn follow(rt: &HostRuntime, lines: &[Line]) -> io::Result<()> {
                 *atoms,
                 *places,
             )?,
-            Some(Request::Ask(_)) => rt.println(no_session(rt.alloc(), line.number)?)?,
-            None => rt.println(not_understood(rt.alloc(), line.number)?)?,
+            Some(Request::Ask(_)) => print_no_session(rt, line)?,
+            None => print_not_understood(rt, line)?,
         }
     }
     Ok(())

@@ -1,4 +1,6 @@
 ghost use Rattle.std.specs.Prelude.{◌≡◌, ◌-◌, ◌≤◌, true, [], ◌∷◌, ◌++◌, length, replicate};
+ghost use Rattle.std.specs.Ordering.{nat_cmp};
+ghost use Rattle.std.specs.Cmp.Lexicographic.{slice_cmp};
 ghost use Rattle.clause.specs.Order.{Compares};
 ghost use Rattle.names.specs.Bytes.{visible, visibles, is_name, naming, rank, ByBytes, OrderLaw};
 ghost use Rattle.names.specs.Names.{spelled, spelling};
@@ -43,14 +45,21 @@ impl Name {
         &self.bytes[..self.len as usize]
     }
 
-    // Kept beside the derived `cmp`, which has no clauses: by bytes, a shorter name before those that it begins.
+    // The order of names: by bytes, a shorter one before those that it begins.
     pub fn compare(&self, other: &Name) -> Ordering
         ensures order { ByBytes (spelled self.now) (spelled other.now) result }
         ensures ranks { Compares (rank (spelled self.now)) (rank (spelled other.now)) result }
         ensures law { OrderLaw }
     {
-        self.cmp(other)
+        compare_bytes(self, other)
     }
+}
+
+// The derived order, which has no clauses of its own: by the bytes, with the zeros behind them.
+fn compare_bytes(a: &Name, b: &Name) -> Ordering
+    ensures { result ≡ slice_cmp nat_cmp a.now.bytes b.now.bytes }
+{
+    a.cmp(b)
 }
 
 // Whether the word is a name.

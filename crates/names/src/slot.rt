@@ -1,10 +1,10 @@
 ghost use Rattle.std.specs.Prelude.{◌≡◌, [], ◌∷◌, ◌==◌};
 ghost use Rattle.names.specs.Names.{spelled};
 ghost use Rattle.names.specs.Slots.{place};
-ghost use Rattle.names.specs.Keyed.{padded, keyed};
 
 use crate::name::Name;
 use row::Record;
+use std::cmp::Ordering;
 
 // A record of the table: a name and its atom. The name alone orders records.
 #[derive(Clone, Copy)]
@@ -60,5 +60,7 @@ impl NameSlot {
 impl Record for NameSlot {
     ghost key = { place };
 
-    ghost keyed = { λ x y. keyed x.name.bytes y.name.bytes x.name.len y.name.len x.name.full y.name.full (padded x.name.bytes x.name.len x.name.good x.name.padded) (padded y.name.bytes y.name.len y.name.good y.name.padded) };
+    fn order(&self, other: &NameSlot) -> Ordering {
+        self.name.compare(&other.name)
+    }
 }

@@ -1,23 +1,54 @@
-// The printed lines that are no items of a session. Kept functions, in place of `Display`: each is one format of a number or of nothing, for which no type stands.
+// The printed lines that are no items of a session. Two of them also print themselves, without memory.
 #![tactic(auto)]
 
-ghost use Rattle.std.specs.Prelude.{◌≡◌, IfOk, string_bytes};
+ghost use Rattle.std.specs.Prelude.{◌≡◌, IfOk, Some, string_bytes};
 ghost use Rattle.notes.specs.Notes.{not_understood, no_session, stores_differ, atom_text};
 
 use std::alloc::{AllocError, Global};
+use std::fmt;
+
+// A line, by its number, that is no request.
+#[derive(Clone, Copy, Debug, PartialEq, Eq)]
+pub struct NotUnderstood {
+    pub line: u64,
+}
+
+impl fmt::Display for NotUnderstood {
+    ghost output = { λ n. Some (not_understood n.line) };
+
+    fn fmt<W: fmt::Write>(&self, f: &mut fmt::Formatter<W>) -> fmt::Result {
+        let line = self.line;
+        write!(f, "line {line}: not understood")
+    }
+}
+
+// A line, by its number, that asks something before any session is opened.
+#[derive(Clone, Copy, Debug, PartialEq, Eq)]
+pub struct NoSession {
+    pub line: u64,
+}
+
+impl fmt::Display for NoSession {
+    ghost output = { λ n. Some (no_session n.line) };
+
+    fn fmt<W: fmt::Write>(&self, f: &mut fmt::Formatter<W>) -> fmt::Result {
+        let line = self.line;
+        write!(f, "line {line}: no session")
+    }
+}
 
 // Of a line that is no request.
 pub fn not_understood(heap: Global, line: u64) -> Result<String, AllocError>
     ensures { IfOk result (λ s. string_bytes s ≡ not_understood line) }
 {
-    format!(in heap; "line {line}: not understood")
+    NotUnderstood { line }.to_string(heap)
 }
 
 // Of a request before any session is opened.
 pub fn no_session(heap: Global, line: u64) -> Result<String, AllocError>
     ensures { IfOk result (λ s. string_bytes s ≡ no_session line) }
 {
-    format!(in heap; "line {line}: no session")
+    NoSession { line }.to_string(heap)
 }
 
 // Where two stores answered otherwise.

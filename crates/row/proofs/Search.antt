@@ -6,35 +6,45 @@ use Rattle.std.proofs.lemmas.Bool.{cases_lt}
 use Rattle.std.proofs.lemmas.Bool.Decides.{nat_tests}
 use Rattle.std.proofs.lemmas.Cmp.{ranked}
 use Rattle.std.proofs.lemmas.List.{length-take-le, get_or-take}
-use Rattle.row.specs.Order.{Ascending, Under, Seat, Holds}
+use Rattle.row.specs.Order.{Compares, Ascending, Under, Seat, Holds}
 use Rattle.row.specs.Adds.{Located}
 
 -- the order of an answer as a number rises with the number compared
 index_rises : (a b k : ℕ) → a ≤ b → ordering_index (nat_cmp a k) ≤ ordering_index (nat_cmp b k)
 index_rises a b k h = grind (arith, nat_tests)
 
-module _ {R : Type 0} (key : R → ℕ) (cmp : R → R → Ordering) (keyed : (x y : R) → cmp x y ≡ nat_cmp (key x) (key y)) (xs : List R) (n : ℕ) (l : n ≤ length xs) (up : Ascending key xs n) (x : R) where
+-- an answer that compares two numbers is the comparison of them
+pub answers : (a b : ℕ) (r : Ordering) → Compares a b r → r ≡ nat_cmp a b
+answers a b Less h = grind (arith, nat_tests, h)
+answers a b Equal h = grind (arith, nat_tests, h)
+answers a b Greater h = grind (arith, nat_tests, h)
+
+-- the comparison of a record by its key with the key k
+abbrev pub against : {R : Type 0} → (R → ℕ) → ℕ → R → Ordering
+against key k y = nat_cmp (key y) k
+
+module _ {R : Type 0} (key : R → ℕ) (xs : List R) (n : ℕ) (l : n ≤ length xs) (up : Ascending key xs n) (x : R) where
   -- what the comparison with x of the record at j says of the keys
-  compared : (j : ℕ) (d : R) (o : Ordering) → j < n → cmp (get_or (take n xs) j d) x ≡ o → MatchOrdering o (key (get_or xs j d) < key x) (key (get_or xs j d) ≡ key x) (key x < key (get_or xs j d))
-  compared j d o b e = ranked _ _ o (sym e ∙ keyed _ _ ∙ ap (λ y. nat_cmp (key y) (key x)) (get_or-take n xs j d b))
+  compared : (j : ℕ) (d : R) (o : Ordering) → j < n → against key (key x) (get_or (take n xs) j d) ≡ o → MatchOrdering o (key (get_or xs j d) < key x) (key (get_or xs j d) ≡ key x) (key x < key (get_or xs j d))
+  compared j d o b e = ranked _ _ o (sym e ∙ ap (λ y. nat_cmp (key y) (key x)) (get_or-take n xs j d b))
 
   -- the comparisons with x rise along the records, as a binary search asks
-  comparisons_rise : IsNonDecreasingBy (λ y. ordering_index (cmp y x)) (take n xs)
+  comparisons_rise : IsNonDecreasingBy (λ y. ordering_index (against key (key x) y)) (take n xs)
   comparisons_rise i j d a b =
       let t = length-take-le n xs l in
       let bi : i < n = omega arith in
       let bj : j < n = omega arith in
       let keys_rise : key (get_or xs i d) ≤ key (get_or xs j d) = grind (arith, up i j d, λ (same : i ≡ j). ap (λ k. key (get_or xs k d)) same) in
-      rw (get_or-take n xs i d bi, get_or-take n xs j d bj, keyed (get_or xs i d) x, keyed (get_or xs j d) x) (index_rises _ _ _ keys_rise)
+      rw (get_or-take n xs i d bi, get_or-take n xs j d bj) (index_rises _ _ _ keys_rise)
 
   -- r is the answer of a binary search among the records ys
-  pub located : (ys : List R) → ys ≡ take n xs → (r : Result ℕ ℕ) → IsSearchInRange r (length ys) → IsBinarySearchResult (λ y. cmp y x) ys r → Located key xs n (key x) r
-  located ys e r w s = found r (subst (λ zs. IsSearchInRange r (length zs)) e w) (subst (λ zs. IsBinarySearchResult (λ y. cmp y x) zs r) e s)
+  pub located : (ys : List R) → ys ≡ take n xs → (r : Result ℕ ℕ) → IsSearchInRange r (length ys) → IsBinarySearchResult (against key (key x)) ys r → Located key xs n (key x) r
+  located ys e r w s = found r (subst (λ zs. IsSearchInRange r (length zs)) e w) (subst (λ zs. IsBinarySearchResult (against key (key x)) zs r) e s)
     where
       t : length (take n xs) ≡ n
       t = length-take-le n xs l
 
-      found : (r : Result ℕ ℕ) → IsSearchInRange r (length (take n xs)) → IsBinarySearchResult (λ y. cmp y x) (take n xs) r → Located key xs n (key x) r
+      found : (r : Result ℕ ℕ) → IsSearchInRange r (length (take n xs)) → IsBinarySearchResult (against key (key x)) (take n xs) r → Located key xs n (key x) r
       found (Ok i) w e = let b : i < n = omega (arith, t) in (b, λ d. compared i d Equal b (e d))
       found (Err i) w p =
           let within : i ≤ n = omega (arith, t) in

@@ -1,6 +1,12 @@
 -- Records in the order of their keys, at the front of a slice.
 use Rattle.std.specs.Prelude.{◌≡◌, ℕ, ◌+◌, ◌<◌, ◌≤◌, List, ◌++◌, take, drop, ◌≢◌, slice_index_or}
+use Rattle.std.specs.declared.cmp.Ordering.{Ordering}
+use Rattle.std.specs.Ordering.{MatchOrdering}
 use Rattle.std.specs.List.{insert}
+
+-- r is the answer that compares the numbers a and b
+abbrev pub Compares : ℕ → ℕ → Ordering → Type 0
+Compares a b r = MatchOrdering r (a < b) (a ≡ b) (b < a)
 
 -- the keys of the first n of xs rise
 abbrev pub Ascending : {R : Type 0} → (R → ℕ) → List R → ℕ → Type 0

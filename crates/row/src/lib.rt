@@ -1,17 +1,18 @@
 #![tactic(auto)]
 
 ghost use Rattle.std.specs.Prelude.{◌≡◌, ℕ, ◌+◌, ◌-◌, ◌<◌, ◌≤◌, min, length, take, drop, MatchOption, slice_index_or, ◌==◌};
-ghost use Rattle.std.specs.Ordering.{nat_cmp};
-ghost use Rattle.row.specs.Order.{Ascending, Seat, Lacks, Holds, seated};
+ghost use Rattle.row.specs.Order.{Compares, Ascending, Seat, Lacks, Holds, seated};
 ghost use Rattle.row.specs.Adds.{Located, Adds};
 
+use std::cmp::Ordering;
+
 // A kind of records with a total order.
-pub trait Record: Ord + Copy {
-    // Where a record stands in the order of its kind.
+pub trait Record: Copy {
+    // Where a record stands in the order of its kind: a record comes before another if its key is less.
     ghost key: { Self → ℕ };
 
-    // A record comes before another if its key is less.
-    ghost keyed: { (x y : Self) → Self.cmp x y ≡ nat_cmp (key x) (key y) };
+    fn order(&self, other: &Self) -> Ordering
+        ensures { Compares (key self.now) (key other.now) result };
 }
 
 // What an addition came to: the slot of the record already held, or that of the new one, or no slot was free.
@@ -100,7 +101,7 @@ impl<'a, R: Record> Row<'a, R> {
     fn search(&self, x: &R) -> Result<usize, usize>
         ensures { Located R.key self.now.slots.now self.now.size (R.key x.now) result }
     {
-        self.records().binary_search(x)
+        self.records().binary_search_by(|record| record.order(x))
     }
 
     // Puts `x` in where it belongs, unless the row holds its equal or is full.

@@ -2,6 +2,7 @@ ghost use Rattle.clause.specs.Clauses.{Words};
 
 use clause::words::Clause;
 use row::Record;
+use std::cmp::Ordering;
 use store::entry::Entry;
 
 // A record of the store: a clause, the numbers of its antecedents, and its own number by arrival. The clause alone orders records.
@@ -85,13 +86,11 @@ impl Slot {
 
 // Records are in clause order.
 impl Record for Slot {
-    ghost use Rattle.std.specs.Prelude.{◌≡◌};
-    ghost use Rattle.std.proofs.Common.{sym};
-    ghost use Rattle.std.specs.Cmp.{ranks};
-    ghost use Rattle.clause.proofs.Ranks.{valued};
     ghost use Rattle.row_store.specs.Seats.{place};
 
     ghost key = { place };
 
-    ghost keyed = { λ x y. sym (valued x.clause y.clause x.words y.words _ (ranks (place x) (place y))) };
+    fn order(&self, other: &Slot) -> Ordering {
+        self.clause.cmp(&other.clause)
+    }
 }

@@ -1,5 +1,6 @@
-ghost use Rattle.std.specs.Prelude.{◌≡◌, ◌++◌, map, IfOk, string_bytes, OnOk};
+ghost use Rattle.std.specs.Prelude.{◌≡◌, [], ◌∷◌, ◌++◌, map, IfOk, string_bytes, OnOk};
 ghost use Rattle.std.specs.Option.{option_map};
+ghost use Rattle.std.specs.List.{join_by};
 ghost use Rattle.script.specs.Lines.{words, spaced_at, spaced, trimmed};
 ghost use Rattle.script.specs.Scripts.{line_as, comment, numbered, line_of, lines_of};
 
@@ -39,11 +40,18 @@ pub fn append(text: &mut String, index: usize, word: &str) -> Result<(), AllocEr
     text.push_str(word)
 }
 
+// The words as the library joins them.
+fn joined(heap: Global, words: &[&str]) -> Result<String, AllocError>
+    ensures { IfOk result (λ s. string_bytes s ≡ join_by (λ x. x.now) (32 ∷ []) words.now) }
+{
+    words.join(heap, " ")
+}
+
 // The words with one space between each two.
 fn spaced(heap: Global, words: &[&str]) -> Result<String, AllocError>
     ensures { IfOk result (λ s. string_bytes s ≡ spaced (map (λ x. x.now) words.now)) }
 {
-    words.join(heap, " ")
+    joined(heap, words)
 }
 
 // The line without the carriage return that it may end in.

@@ -6,7 +6,8 @@ mod measured;
 mod plain;
 mod task;
 
-ghost use Rattle.std.specs.Prelude.{◌≡◌, ◌+◌, ◌-◌, ◌*◌, ◌/◌, ◌%◌, ◌^◌, if◌then◌else◌, bit_and, nat_eq};
+ghost use Rattle.std.specs.Prelude.{◌≡◌, ◌+◌, ◌-◌, ◌*◌, ◌/◌, ◌%◌, ◌^◌, if◌then◌else◌, bit_and, nat_eq, IfOk, vec_len};
+ghost use Rattle.nth_clause.specs.Digits.{AtPlaces};
 
 use clause::words::Clause;
 use measured::{Measured, Stored};
@@ -15,6 +16,7 @@ use plain::Plain;
 use row_store::ordered::RowStore;
 use row_store::slot::Slot;
 use skip_store::skips::{SkipStore, blank, links_for};
+use std::alloc::{AllocError, Global};
 use std::io;
 use std::io::{BufRead, BufReader};
 use std::time::Instant;
@@ -28,6 +30,20 @@ const PUT: u32 = 265720;
 
 // The clauses after them are never put.
 const OTHER: u32 = 265721;
+
+// The clauses that are put, in clause order.
+fn put_clauses(heap: Global) -> Result<Vec<Clause>, AllocError>
+    ensures { IfOk result (λ v. (vec_len v ≡ 16384) × AtPlaces 265720 v.items 16384) }
+{
+    fifths::<PUT>(heap, COUNT)
+}
+
+// The clauses that never are, each after the one at its place.
+fn other_clauses(heap: Global) -> Result<Vec<Clause>, AllocError>
+    ensures { IfOk result (λ v. (vec_len v ≡ 16384) × AtPlaces 265721 v.items 16384) }
+{
+    fifths::<OTHER>(heap, COUNT)
+}
 
 // The steps in which clauses are put and asked for.
 const PUT_STEP: u32 = 9973;
@@ -130,8 +146,8 @@ fn measure<M: Measured>(
     task: &Task,
 ) -> io::Result<()> {
     let heap = rt.alloc();
-    let held = fifths::<PUT>(heap, COUNT)?;
-    let others = fifths::<OTHER>(heap, COUNT)?;
+    let held = put_clauses(heap)?;
+    let others = other_clauses(heap)?;
     let job = Job {
         task: *task,
         held: &held,

@@ -1,7 +1,7 @@
 -- Which clauses are put, in which order they arrive, and what both stores are then known to answer.
-use Rattle.std.specs.Prelude.{◌≡◌, ℕ, ◌+◌, ◌-◌, ◌*◌, ◌/◌, ◌%◌, ◌^◌, ◌<◌, ◌≤◌, min, Bool, false, cond, not, ◌&&◌, List, length, Some, None, Ok, Err, Option, Result, is_some, ◌==◌, bit_xor, slice_index}
+use Rattle.std.specs.Prelude.{◌≡◌, ℕ, ◌+◌, ◌-◌, ◌*◌, ◌/◌, ◌%◌, ◌^◌, ◌<◌, ◌≤◌, min, Bool, true, false, cond, not, ◌&&◌, List, length, Some, None, Ok, Err, Option, Result, is_some, ◌==◌, bit_xor, slice_index}
 use Rattle.std.specs.List.{find, slice_get}
-use Rattle.clause.specs.Clauses.{lits, makes}
+use Rattle.clause.specs.Clauses.{lits, makes, same}
 use Rattle.clause.specs.Refusals.{Told}
 use Rattle.store.specs.declared.entry.Entry.{Entry}
 use Rattle.nth_clause.specs.Digits.{nth}
@@ -61,6 +61,16 @@ counts v p = is_some p.number && not (makes v (lits p.clause))
 -- the number of the first clause in clause order that was put and is false
 abbrev pub first_known : ℕ → List Placed → Option ℕ
 first_known v ps = number_of (find (counts v) ps)
+
+abbrev pub same_entry : Entry → Entry → Bool
+same_entry a b = same a.clause b.clause && (a.first == b.first && a.second == b.second)
+
+-- two answers are the same entry, or both none
+abbrev pub same_entries : Option Entry → Option Entry → Bool
+same_entries None None = true
+same_entries None (Some b) = false
+same_entries (Some a) None = false
+same_entries (Some a) (Some b) = same_entry a b
 
 -- a put answers the number, or refusal 10 for none
 abbrev pub is_due : Result ℕ Told → Option ℕ → Bool

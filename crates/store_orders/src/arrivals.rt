@@ -1,6 +1,10 @@
-ghost use Rattle.std.specs.Prelude.{◌≡◌, ◌≤◌, IfOk, vec_len};
-ghost use Rattle.store_orders.specs.Arrivals.{last, inwards, place_of, mixed_up, mixed_down};
+ghost use Rattle.std.specs.Prelude.{◌≡◌, ◌+◌, ◌≤◌, IfOk, vec_len};
+ghost use Rattle.clause.specs.Clauses.{lits};
+ghost use Rattle.nth_clause.specs.Digits.{nth, AtPlaces};
+ghost use Rattle.store_orders.specs.Arrivals.{number_at, last, inwards, place_of, mixed_up, mixed_down};
 
+use clause::words::Clause;
+use nth_clause::{fifth, fifths};
 use std::alloc::{AllocError, Global};
 
 // How many clauses are put: as many as a store has places at most.
@@ -18,10 +22,31 @@ pub enum Order {
 
 // The clauses that are put are every fifth in clause order from this number on, which is {11}: they have 11 atoms, and atom 11 is positive
 // below place 11,810 and negative from there on.
-pub const PUT: u32 = 59049;
+const PUT: u32 = 59049;
 
 // The clauses after them are never put.
-pub const OTHER: u32 = 59050;
+const OTHER: u32 = 59050;
+
+// The clause at place j of those that are put, in clause order.
+pub fn put_clause(j: u16) -> Clause
+    ensures { lits result ≡ nth (number_at j) }
+{
+    fifth::<PUT>(j)
+}
+
+// The clause after it, which is never put.
+pub fn other_clause(j: u16) -> Clause
+    ensures { lits result ≡ nth (number_at j + 1) }
+{
+    fifth::<OTHER>(j)
+}
+
+// The clauses that are put, in clause order.
+pub fn all_clauses(heap: Global) -> Result<Vec<Clause>, AllocError>
+    ensures { IfOk result (λ v. (vec_len v ≡ 16384) × AtPlaces 59049 v.items 16384) }
+{
+    fifths::<PUT>(heap, COUNT)
+}
 
 // The place of the i-th to arrive, from 0, from the two ends inwards.
 // Kept twice, here and in `store_bench`: one function over any range would be public in a third crate, with a contract and a must-fail edit of its own, for this one line.

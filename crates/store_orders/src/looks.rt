@@ -2,12 +2,11 @@
 ghost use Rattle.std.specs.Prelude.{◌≡◌, MatchOption};
 ghost use Rattle.clause.specs.Refusals.{answer};
 ghost use Rattle.std.specs.List.{find};
-ghost use Rattle.store_orders.specs.Arrivals.{known_number, NoEntry, IsEntry, counts, first_known, is_due, next};
+ghost use Rattle.store_orders.specs.Arrivals.{known_number, NoEntry, IsEntry, counts, first_known, is_due, next, same_entries};
 
-use crate::arrivals::{COUNT, OTHER, PUT};
+use crate::arrivals::{COUNT, other_clause, put_clause};
 use clause::refusal::Refusal;
 use clause::words::Clause;
-use nth_clause::fifth;
 use std::io;
 use store::entry::Entry;
 use store::store::ClauseStore;
@@ -49,7 +48,7 @@ impl Known<'_, '_> {
     {
         let index = number.checked_sub(1)?;
         let place = *self.places.get(index as usize)?;
-        Some(Entry::derived(fifth::<PUT>(place), number, place))
+        Some(Entry::derived(put_clause(place), number, place))
     }
 
     // The first clause in clause order that was put and is false.
@@ -75,6 +74,13 @@ fn is_answer(put: Result<u16, Refusal>, number: Option<u16>) -> bool
     ensures { result ≡ is_due (answer put) number }
 {
     put == number.ok_or(Refusal::NoPlaceFree)
+}
+
+// Whether two answers are the same entry, or both none: the derived equality, which has no clauses of its own.
+fn same_entries(one: Option<Entry>, other: Option<Entry>) -> bool
+    ensures { result ≡ same_entries one other }
+{
+    one == other
 }
 
 // Both stores side by side, where they print, and how many of their answers were the known one.
@@ -107,8 +113,8 @@ impl<A: ClauseStore, B: ClauseStore> Sides<'_, '_, '_, A, B> {
 
     // Puts one clause more into full stores, which is refused, and the first clause in order, which is held.
     pub fn put_full(&mut self, first: Option<u16>) -> io::Result<()> {
-        self.put(Entry::given(fifth::<OTHER>(0)), None)?;
-        self.put(Entry::given(fifth::<PUT>(0)), first)
+        self.put(Entry::given(other_clause(0)), None)?;
+        self.put(Entry::given(put_clause(0)), first)
     }
 
     // Counts answers of both stores that are the known one, or prints a line.
@@ -147,8 +153,8 @@ impl<A: ClauseStore, B: ClauseStore> Sides<'_, '_, '_, A, B> {
 
     fn finds(&mut self, known: &Known) -> io::Result<()> {
         for j in 0..COUNT {
-            self.find("find", j, fifth::<PUT>(j), known.number(j))?;
-            self.find("find after", j, fifth::<OTHER>(j), None)?;
+            self.find("find", j, put_clause(j), known.number(j))?;
+            self.find("find after", j, other_clause(j), None)?;
         }
         Ok(())
     }
@@ -157,9 +163,9 @@ impl<A: ClauseStore, B: ClauseStore> Sides<'_, '_, '_, A, B> {
         let rt = self.rt;
         for number in 0..COUNT + 2 {
             let row = self.row.entry(number);
-            if row != self.skip.entry(number) {
+            if !same_entries(row, self.skip.entry(number)) {
                 println!(rt; "stores differ: entry {number}")?;
-            } else if row != known.entry(number) {
+            } else if !same_entries(row, known.entry(number)) {
                 println!(rt; "wrong: entry {number}")?;
             } else {
                 self.count();

@@ -5,10 +5,9 @@
 mod arrivals;
 mod looks;
 
-use arrivals::{COUNT, Order, PUT, arrivals};
+use arrivals::{COUNT, Order, all_clauses, arrivals, put_clause};
 use clause::words::Clause;
 use looks::{Known, Placed, Sides};
-use nth_clause::{fifth, fifths};
 use row_store::ordered::RowStore;
 use row_store::slot::Slot;
 use skip_store::skips::{SkipStore, blank, links_for};
@@ -23,7 +22,7 @@ fn fill<A: ClauseStore, B: ClauseStore>(
     clauses: &mut [Placed],
 ) -> io::Result<()> {
     for (size, j) in (1..=COUNT).zip(places) {
-        let entry = Entry::derived(fifth::<PUT>(*j), size, *j);
+        let entry = Entry::derived(put_clause(*j), size, *j);
         sides.put(entry, Some(size))?;
         if let Some(placed) = clauses.get_mut(*j as usize) {
             placed.number = Some(size);
@@ -65,7 +64,7 @@ fn follow(rt: &HostRuntime, name: &str, order: Order, clauses: &[Clause]) -> io:
 }
 
 fn main(rt: HostRuntime) -> io::Result<()> {
-    let clauses = fifths::<PUT>(rt.alloc(), COUNT)?;
+    let clauses = all_clauses(rt.alloc())?;
     follow(&rt, "ascending", Order::Ascending, &clauses)?;
     follow(&rt, "descending", Order::Descending, &clauses)?;
     follow(&rt, "alternating", Order::Alternating, &clauses)?;

@@ -1,5 +1,6 @@
 ghost use Rattle.std.specs.Prelude.{◌≡◌, ℕ, ◌+◌, ◌<◌, ◌≤◌, true, is_ok, Decides};
 ghost use Rattle.clause.specs.Refusals.{answer, told};
+ghost use Rattle.rule.specs.Rule.{Right};
 ghost use Rattle.trace_check.specs.Checks.{Opened, Took, Means, waiting, fault_told, judgement};
 ghost use Rattle.trace_check.specs.Meaning.{Refutes};
 
@@ -44,6 +45,16 @@ impl<'a> OpenCheck<'a> {
         self.fault.is_none() && self.taken < self.claim.last
     }
 
+    // Whether the line after those taken is right.
+    fn next_is_right(&self) -> bool
+        requires { self.now.taken < self.now.claim.last }
+        ensures { Decides result (Right self.now.claim.trace.now self.now.claim.atoms self.now.claim.last (self.now.taken + 1)) }
+    {
+        // Of a number in a struct only a read says that it fits its type.
+        let _last = self.claim.last;
+        self.claim.is_right(self.taken + 1)
+    }
+
     // What a check with this fault is refused with.
     fn refusal(&self, fault: Fault) -> Refusal
         ensures { told result ≡ fault_told self.now.taken fault }
@@ -67,7 +78,7 @@ impl<'a> OpenCheck<'a> {
         if self.taken >= self.claim.last {
             return Ok(self.taken);
         }
-        if self.claim.is_right(self.taken + 1) {
+        if self.next_is_right() {
             self.taken += 1;
             Ok(self.taken)
         } else {

@@ -12,4 +12,4 @@ joined f [] = refl
 joined f (x ∷ xs) = joined_from f x xs
 
 pub returns : goal.returns
-returns c = IfOk-weaker c.join.result _ _ (λ s e. e ∙ joined (λ x. x.now) c.args.words.now) c.join.ensures.ok
+returns c = IfOk-weaker c.joined.result _ _ (λ s e. e ∙ joined (λ x. x.now) c.args.words.now) c.joined.ensures

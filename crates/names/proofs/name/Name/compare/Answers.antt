@@ -9,5 +9,5 @@ pub returns : goal.returns
 returns c =
     let s = c.args.self.now in
     let o = c.args.other.now in
-    let r = ranked _ _ c.cmp.result (c.cmp.ensures ∙ keyed s.bytes o.bytes s.len o.len s.full o.full (padded s.bytes s.len s.good s.padded) (padded o.bytes o.len o.good o.padded)) in
-    record { order = by_ranks (spelled s) (spelled o) c.cmp.result s.good o.good r; ranks = r; law = order_law }
+    let r = ranked _ _ c.compare_bytes.result (c.compare_bytes.ensures ∙ keyed s.bytes o.bytes s.len o.len s.full o.full (padded s.bytes s.len s.good s.padded) (padded o.bytes o.len o.good o.padded)) in
+    record { order = by_ranks (spelled s) (spelled o) c.compare_bytes.result s.good o.good r; ranks = r; law = order_law }
