@@ -13,11 +13,11 @@ use Rattle.session.specs.Calls.{opened, load}
 use Rattle.answer.specs.Answered.{answered, parsed_as, loaded, faulted, vacant}
 
 -- what a step tells, a text or a refusal that prints as x, told of an equal text
-pub moved : (r : Result (List ℕ) Refusal) (x y : List ℕ) → x ≡ y → MatchResult r (λ t. t ≡ x) (λ e. faulted (told e) ≡ x) → MatchResult r (λ t. t ≡ y) (λ e. faulted (told e) ≡ y)
-moved r x y e h = subst (λ z. MatchResult r (λ t. t ≡ z) (λ f. faulted (told f) ≡ z)) e h
+pub moved : (r : Result (Unit {0}) Refusal) (t x y : List ℕ) → x ≡ y → MatchResult r (λ _. t ≡ x) (λ e. (t ≡ []) × (faulted (told e) ≡ x)) → MatchResult r (λ _. t ≡ y) (λ e. (t ≡ []) × (faulted (told e) ≡ y))
+moved r t x y e h = subst (λ z. MatchResult r (λ _. t ≡ z) (λ f. (t ≡ []) × (faulted (told f) ≡ z))) e h
 
-pub refused : (r : Result (List ℕ) Refusal) (f : Refusal) (y : List ℕ) → r ≡ Err f → faulted (told f) ≡ y → MatchResult r (λ t. t ≡ y) (λ e. faulted (told e) ≡ y)
-refused r f y e h = subst (λ z. MatchResult z (λ t. t ≡ y) (λ g. faulted (told g) ≡ y)) (sym e) h
+pub refused : (r : Result (Unit {0}) Refusal) (f : Refusal) (t y : List ℕ) → r ≡ Err f → t ≡ [] → faulted (told f) ≡ y → MatchResult r (λ _. t ≡ y) (λ e. (t ≡ []) × (faulted (told e) ≡ y))
+refused r f t y e n h = subst (λ z. MatchResult z (λ _. t ≡ y) (λ g. (t ≡ []) × (faulted (told g) ≡ y))) (sym e) (n, h)
 
 pub vacant_is : (es : List Entry) (p : ℕ) → es ≡ [] → p ≡ 1024 → ◌≡◌ {A = Held} (record { entries = es; places = p }) vacant
 vacant_is es p e q = rw (e, q)

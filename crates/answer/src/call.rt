@@ -5,7 +5,7 @@ ghost use Rattle.session.specs.Calls.{run, opened, load};
 ghost use Rattle.answer.specs.Answered.{answered, faulted, ran, loaded, vacant};
 ghost use Rattle.answer.specs.Printed.{wrote};
 
-use crate::report::{refusal_text, report_text};
+use crate::report::{put_refusal, put_report};
 use crate::text::Text;
 use clause::refusal::Refusal;
 use dimacs::check::check;
@@ -31,44 +31,53 @@ fn print_answer(text: &[u8], out: &mut [u8]) -> usize
     ensures after { out.new ≡ wrote out.old 0 (answered text.now) }
     ensures bound { result ≤ 512 }
 {
-    let answer = decide(text).unwrap_or_else(|e| refusal_text(e));
+    let mut answer = Text::new();
+    if let Err(e) = decide(text, &mut answer) {
+        put_refusal(&mut answer, e);
+    }
     let bytes = answer.as_bytes();
     out[..bytes.len()].copy_from_slice(bytes);
     bytes.len()
 }
 
-// How the text is decided, or why it is refused.
-fn decide(text: &[u8]) -> Result<Text, Refusal>
-    ensures { MatchResult result (λ t. t ≡ answered text.now) (λ e. faulted (told e) ≡ answered text.now) }
+// Puts down how the text is decided, or says why it is refused.
+fn decide(text: &[u8], answer: &mut Text) -> Result<(), Refusal>
+    requires { answer.old ≡ [] }
+    ensures { MatchResult result (λ _. answer.new ≡ answered text.now) (λ e. (answer.new ≡ []) × (faulted (told e) ≡ answered text.now)) }
 {
     if is_too_large(text.len()) {
         return Err(Refusal::TooLarge);
     }
     let heading = check(text, 64)?;
-    decide_checked(text, heading.atoms)
+    decide_checked(text, heading.atoms, answer)
 }
 
 // Opens a session with so many atoms over 1,024 local places, loads the text and runs. The bound on the atoms is asked of each function that prints them: a session
 // holds any count, and its opening refuses one above 64.
-fn decide_checked(text: &[u8], atoms: u32) -> Result<Text, Refusal>
-    requires { atoms ≤ 64 }
-    ensures { MatchResult result (λ t. t ≡ loaded atoms (load vacant (opened atoms vacant) text.now)) (λ e. faulted (told e) ≡ loaded atoms (load vacant (opened atoms vacant) text.now)) }
+fn decide_checked(text: &[u8], atoms: u32, answer: &mut Text) -> Result<(), Refusal>
+    requires { (atoms ≤ 64) × (answer.old ≡ []) }
+    ensures { MatchResult result (λ _. answer.new ≡ loaded atoms (load vacant (opened atoms vacant) text.now)) (λ e. (answer.new ≡ []) × (faulted (told e) ≡ loaded atoms (load vacant (opened atoms vacant) text.now))) }
 {
     let mut slots = [Slot::blank(); 1024];
     let mut seats = [0u16; 1024];
     let mut store = RowStore::new(&mut slots, &mut seats);
     let mut session = Session::open(atoms, &mut store);
     session.load(text)?;
-    run_loaded(&mut session, atoms)
+    run_loaded(&mut session, atoms, answer)
 }
 
 // Runs, and tells how the run ended.
-fn run_loaded<S: ClauseStore>(session: &mut Session<'_, S>, atoms: u32) -> Result<Text, Refusal>
-    requires { atoms ≤ 64 }
-    ensures { MatchResult result (λ t. t ≡ ran atoms (run (S.held session.old.store.now) session.old.search 2000000)) (λ e. faulted (told e) ≡ ran atoms (run (S.held session.old.store.now) session.old.search 2000000)) }
+fn run_loaded<S: ClauseStore>(
+    session: &mut Session<'_, S>,
+    atoms: u32,
+    answer: &mut Text,
+) -> Result<(), Refusal>
+    requires { (atoms ≤ 64) × (answer.old ≡ []) }
+    ensures { MatchResult result (λ _. answer.new ≡ ran atoms (run (S.held session.old.store.now) session.old.search 2000000)) (λ e. (answer.new ≡ []) × (faulted (told e) ≡ ran atoms (run (S.held session.old.store.now) session.old.search 2000000))) }
 {
     let report = session.run(2_000_000)?;
-    Ok(report_text(session, atoms, report.outcome))
+    put_report(answer, session, atoms, report.outcome);
+    Ok(())
 }
 
 // Whether a text of so many bytes is refused unread.

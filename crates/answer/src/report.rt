@@ -1,5 +1,5 @@
 // The texts of refusals and of runs.
-ghost use Rattle.std.specs.Prelude.{◌≡◌, ℕ, ◌+◌, ◌≤◌, ◌++◌, length};
+ghost use Rattle.std.specs.Prelude.{◌≡◌, ℕ, ◌+◌, ◌≤◌, [], ◌++◌, length};
 ghost use Rattle.clause.specs.Refusals.{told};
 ghost use Rattle.session.specs.Reports.{said};
 ghost use Rattle.answer.specs.Answered.{percent, counted, valued, reported, faulted, status};
@@ -22,15 +22,14 @@ pub(crate) fn percent_of(size: u16, places: u16) -> u64
 }
 
 // Why a text was refused: the refusal's number and place. Kept calls of `Text`, here and below, in place of `Display`: a formatter may fail, and an answer is printed whole.
-pub(crate) fn refusal_text(refusal: Refusal) -> Text
-    ensures { result ≡ faulted (told refusal) }
+pub(crate) fn put_refusal(text: &mut Text, refusal: Refusal)
+    requires { text.old ≡ [] }
+    ensures { text.new ≡ faulted (told refusal) }
 {
-    let mut text = Text::new();
     text.put(b"e");
     text.field(u64::from(refusal.number()));
     text.field(refusal.place() as u64);
     text.put(b"\n");
-    text
 }
 
 // The line of a verdict.
@@ -71,19 +70,18 @@ fn put_counts<S: ClauseStore>(text: &mut Text, session: &Session<'_, S>)
 }
 
 // How a run ended: the verdict, under satisfiable the valuation, and the counts.
-pub(crate) fn report_text<S: ClauseStore>(
+pub(crate) fn put_report<S: ClauseStore>(
+    text: &mut Text,
     session: &Session<'_, S>,
     atoms: u32,
     outcome: Outcome,
-) -> Text
-    requires { atoms ≤ 64 }
-    ensures { result ≡ reported atoms session.now.search (said outcome) (length (S.held session.now.store.now).entries) (S.held session.now.store.now).places }
+)
+    requires { (atoms ≤ 64) × (text.old ≡ []) }
+    ensures { text.new ≡ reported atoms session.now.search (said outcome) (length (S.held session.now.store.now).entries) (S.held session.now.store.now).places }
 {
-    let mut text = Text::new();
     text.put(verdict(outcome));
     if let Outcome::Satisfiable = outcome {
-        put_values(&mut text, atoms, session.search().valuation);
+        put_values(text, atoms, session.search().valuation);
     }
-    put_counts(&mut text, session);
-    text
+    put_counts(text, session);
 }

@@ -15,7 +15,7 @@ returns-in_err-load c =
     let k = ap meant c.open-session.ensures.store in
     let d = decided c.args.atoms c.args.text.now (meant c.open-session.result.store.now) c.open-session.result.search _ (k ∙ e)
     (c.open-session.ensures.search ∙ ap (opened c.args.atoms) (sym k)) c.in_err-load.ensures.made in
-    refused c.from_residual.result c.in_err-load.field-0.0 _ (search rules) d
+    refused c.from_residual.result c.in_err-load.field-0.0 _ _ (search rules) (search rules) d
 
 pub returns : goal.returns
 returns c =
@@ -23,4 +23,4 @@ returns c =
     let k = ap meant c.open-session.ensures.store in
     let d = decided c.args.atoms c.args.text.now (meant c.open-session.result.store.now) c.open-session.result.search _ (k ∙ e)
     (c.open-session.ensures.search ∙ ap (opened c.args.atoms) (sym k)) c.in_ok-load.ensures.made in
-    moved c.run_loaded.result _ _ d c.run_loaded.ensures
+    moved c.run_loaded.result _ _ _ d c.run_loaded.ensures
