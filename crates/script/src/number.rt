@@ -1,5 +1,5 @@
 ghost use Rattle.std.specs.Prelude.{◌≡◌, true, false};
-ghost use Rattle.script.specs.Numbers.{number, literal, signed};
+ghost use Rattle.script.specs.Numbers.{number, digits, literal, signed};
 
 // What lies beyond the range of a number is read as the largest.
 const MOST: u32 = u32::MAX;
@@ -11,7 +11,14 @@ pub fn number(word: &str) -> Option<u32>
     if word.is_empty() {
         return None;
     }
-    digits::number::<MOST>(word.as_bytes())
+    capped(word.as_bytes())
+}
+
+// The number that the digits write; nothing where a byte is no digit.
+fn capped(word: &[u8]) -> Option<u32>
+    ensures { result ≡ digits word.now }
+{
+    digits::number::<MOST>(word)
 }
 
 // The negative literal of an atom, or the farthest from 0 where it is beyond.
